@@ -1,0 +1,14 @@
+pub mod Orders
+pub mod Reaches
+pub mod Judges
+pub mod Notes
+pub mod Spots
+pub mod Meanings
+pub mod Sides
+pub mod Sees
+pub mod Loops
+pub mod Ranks
+pub mod Told
+pub mod Uniques
+pub mod Literal
+pub mod Follows

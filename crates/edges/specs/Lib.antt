@@ -1,0 +1,3 @@
+pub mod Edges
+pub mod Places
+pub mod Verdicts

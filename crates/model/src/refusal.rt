@@ -1,0 +1,67 @@
+// Why something was refused, and how that is told.
+ghost use mathlib.Core.Path.{_≡_};
+ghost use Rattle.model.specs.Refusals.{schema-reason};
+
+// Why a schema line was refused: the first of these that applies, in this order.
+#[derive(Clone, Copy, PartialEq, Eq, Debug)]
+pub enum SchemaRefusal {
+    // the line is not the writing of a schema record
+    Line,
+    // too many elements or edges
+    Size,
+    // an element's kind or id byte, or an id used earlier
+    Element { place: usize },
+    // a block does not close, or is closed or divided by a foreign element
+    Block { place: usize },
+    // a sync edge breaks the edge rule or closes a cycle
+    Edge { place: usize, source: u8 },
+}
+
+// A refusal as it is told: its number, the layer of checks that gave it, the place in what was checked and
+// the id concerned, where there are such.
+#[derive(Clone, Copy, PartialEq, Eq, Debug)]
+pub struct Reason {
+    pub place: Option<usize>,
+    pub id: Option<u8>,
+    pub number: u8,
+    pub layer: u8,
+}
+
+impl SchemaRefusal {
+    pub fn reason(self) -> Reason
+        ensures { λ r. ⌜ r ≡ schema-reason self ⌝ }
+    {
+        match self {
+            SchemaRefusal::Line => Reason {
+                place: None,
+                id: None,
+                number: 1,
+                layer: 1,
+            },
+            SchemaRefusal::Size => Reason {
+                place: None,
+                id: None,
+                number: 10,
+                layer: 2,
+            },
+            SchemaRefusal::Element { place } => Reason {
+                place: Some(place),
+                id: None,
+                number: 11,
+                layer: 2,
+            },
+            SchemaRefusal::Block { place } => Reason {
+                place: Some(place),
+                id: None,
+                number: 13,
+                layer: 2,
+            },
+            SchemaRefusal::Edge { place, source } => Reason {
+                place: Some(place),
+                id: Some(source),
+                number: 14,
+                layer: 2,
+            },
+        }
+    }
+}
