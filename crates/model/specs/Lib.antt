@@ -4,4 +4,4 @@ pub mod Trees
 pub mod Rows
 pub mod Relations
 pub mod Paths
-pub mod RowItems
+pub mod Lists

@@ -2,8 +2,10 @@
 ghost use mathlib.Core.Path.{_≡_};
 ghost use Rattle.model.specs.Elements.{bytes-read, Spelled, node-id};
 
+pub mod bounded;
 pub mod refusal;
-pub mod row;
+
+use bounded::Bounded;
 
 // One element of a schema's row. Activities, decisions (of an XOR split) and tests (of a loop end) are
 // its nodes, and only they have an id.
@@ -28,6 +30,12 @@ pub struct Edge {
     pub source: u8,
     pub target: u8,
 }
+
+// The elements of a schema, in their order.
+pub type Row = Bounded<Element, 128>;
+
+// The sync edges of a schema, in the order in which they were listed.
+pub type EdgeList = Bounded<Edge, 32>;
 
 impl Element {
     // The element that a kind byte and an id byte spell, if they spell one.

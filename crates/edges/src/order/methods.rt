@@ -2,7 +2,7 @@
 ghost use mathlib.Core.Path.{_≡_};
 ghost use mathlib.Core.List.{List};
 ghost use Rattle.model.specs.declared.Element.{Element};
-ghost use Rattle.model.specs.RowItems.{row-items};
+ghost use Rattle.model.specs.Lists.{items};
 ghost use Rattle.edges.specs.Edges.{within};
 ghost use Rattle.edges.specs.Places.{OrderOf};
 ghost use Rattle.edges.specs.Verdicts.{edges-checked, Tells, Leaves, edge-admitted, Judges, Ordered};
@@ -14,16 +14,16 @@ use crate::proper;
 use crate::within;
 use ids::IdSet;
 use model::Edge;
-use model::row::Row;
+use model::Row;
 
 impl Order {
     // The order of a row's nodes.
     pub fn of(row: &Row) -> Order
-        ensures { λ r. ⌜ OrderOf (row-items (now (row .entry))) r ⌝ }
+        ensures { λ r. ⌜ OrderOf (items (now (row .entry))) r ⌝ }
     {
         let mut before = [IdSet::empty(); 64];
         let mut partners = [IdSet::empty(); 64];
-        places::read(row.elements(), &mut before, &mut partners);
+        places::read(row.as_slice(), &mut before, &mut partners);
         Order { before, partners }
     }
 

@@ -1,0 +1,6 @@
+pub mod Passing
+pub mod Taking
+pub mod Wrongs
+pub mod Rights
+pub mod Onlys
+pub mod Lines

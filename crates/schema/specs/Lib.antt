@@ -1,0 +1,5 @@
+pub mod Reading
+pub mod Seen
+pub mod Checks
+pub mod Causes
+pub mod Schemas
