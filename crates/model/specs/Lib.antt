@@ -4,4 +4,3 @@ pub mod Trees
 pub mod Rows
 pub mod Relations
 pub mod Paths
-pub mod Lists

@@ -2,7 +2,6 @@
 ghost use mathlib.Core.Path.{_≡_};
 ghost use Rattle.model.specs.Elements.{bytes-read, Spelled, node-id};
 
-pub mod bounded;
 pub mod refusal;
 
 use bounded::Bounded;

@@ -1,6 +1,7 @@
 // Why something was refused, and how that is told.
 ghost use mathlib.Core.Path.{_≡_};
 ghost use Rattle.model.specs.Refusals.{schema-reason};
+use std::fmt;
 
 // Why a schema line was refused: the first of these that applies, in this order.
 #[derive(Clone, Copy, PartialEq, Eq, Debug)]
@@ -62,6 +63,23 @@ impl SchemaRefusal {
                 number: 14,
                 layer: 2,
             },
+        }
+    }
+}
+
+// As programs print it.
+pub impl fmt::Display for Reason as ReasonDisplay {
+    fn fmt<W: fmt::Write>(&self, f: &mut fmt::Formatter<W>) -> fmt::Result {
+        let number = self.number;
+        let layer = self.layer;
+        write!(f, "refused {number}, layer {layer}, place ")?;
+        match self.place {
+            Some(place) => write!(f, "{place}")?,
+            None => write!(f, "none")?,
+        }
+        match self.id {
+            Some(id) => write!(f, ", id {id}"),
+            None => write!(f, ", id none"),
         }
     }
 }

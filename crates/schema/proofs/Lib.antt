@@ -4,3 +4,4 @@ pub mod Wrongs
 pub mod Rights
 pub mod Onlys
 pub mod Lines
+pub mod Checked

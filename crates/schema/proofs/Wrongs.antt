@@ -185,3 +185,10 @@ among-left (x ∷ xs) ys u (inr h) = inr (among-left xs ys u h)
 pub among-right : (xs ys : List Element) (u : ℕ) → Among ys u → Among (xs ++ ys) u
 among-right [] ys u a = a
 among-right (x ∷ xs) ys u a = inr (among-right xs ys u a)
+
+pub bears-low : (x : Element) → low-id (node-id x) ≡ true → (u : ℕ) → Bears x u → u < 64
+bears-low x e u b = go (node-id x) e (bears-to x u b)
+  where
+    go : (o : Option ℕ) → low-id o ≡ true → Id-is o u → u < 64
+    go None e h = elim h [ ]
+    go (Some i) e h = subst (λ k. k < 64) (sym h) (ltb-true i 64 e)

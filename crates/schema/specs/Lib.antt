@@ -3,3 +3,4 @@ pub mod Seen
 pub mod Checks
 pub mod Causes
 pub mod Schemas
+pub mod Tables

@@ -5,7 +5,7 @@ use Prim.Native.Nat.{ℕ}
 use Rattle.std.specs.declared.result.Result.{Result}
 use Rattle.std.specs.declared.result.Result.the-variants.{Ok, Err}
 use Rattle.model.specs.declared.refusal.SchemaRefusal.{SchemaRefusal}
-use Rattle.model.specs.Lists.{items}
+use Rattle.bounded.specs.Lists.{items}
 use Rattle.schema.specs.declared.schema.Schema.{Schema}
 use Rattle.schema.specs.declared.SchemaError.{SchemaError}
 use Rattle.schema.specs.declared.SchemaError.the-variants.{Refused, Memory}

@@ -4,7 +4,7 @@ ghost use mathlib.Core.List.{List, [], _∷_, map};
 ghost use Prim.Native.Nat.{ℕ, _<_, _≤_};
 ghost use lib.ListN.{length, getD};
 ghost use Rattle.model.specs.Elements.{node-id, bytes-read};
-ghost use Rattle.model.specs.Lists.{items};
+ghost use Rattle.bounded.specs.Lists.{items};
 ghost use Rattle.record.specs.Pairs.{pairs};
 ghost use Rattle.schema.specs.Reading.{row-read, edge-of};
 ghost use Rattle.schema.specs.Seen.{unseen, with-id, Row-told};

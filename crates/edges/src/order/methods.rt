@@ -2,7 +2,7 @@
 ghost use mathlib.Core.Path.{_≡_};
 ghost use mathlib.Core.List.{List};
 ghost use Rattle.model.specs.declared.Element.{Element};
-ghost use Rattle.model.specs.Lists.{items};
+ghost use Rattle.bounded.specs.Lists.{items};
 ghost use Rattle.edges.specs.Edges.{within};
 ghost use Rattle.edges.specs.Places.{OrderOf};
 ghost use Rattle.edges.specs.Verdicts.{edges-checked, Tells, Leaves, edge-admitted, Judges, Ordered};

@@ -5,7 +5,7 @@ ghost use mathlib.Core.List.{List, []};
 ghost use Rattle.std.specs.Options.{isSome};
 ghost use Rattle.blocks.specs.Blocks.{fault};
 ghost use Rattle.edges.specs.Verdicts.{edges-verdict};
-ghost use Rattle.model.specs.Lists.{items};
+ghost use Rattle.bounded.specs.Lists.{items};
 ghost use Rattle.record.specs.Readings.{raw};
 ghost use Rattle.schema.specs.Checks.{distinct, by-blocks, by-edges, over, schema-checked, schema-read};
 ghost use Rattle.schema.specs.Schemas.{shown, Answers, Told};
@@ -17,6 +17,7 @@ use crate::rows::read_row;
 use crate::schema::Schema;
 use blocks::check_blocks;
 use edges::order::Order;
+use layout::Layout;
 use model::EdgeList;
 use model::Row;
 use model::refusal::SchemaRefusal;
@@ -31,8 +32,15 @@ fn check_edges(version: u16, row: Row, edges: EdgeList) -> Result<Schema, Schema
     ensures { λ r. ⌜ shown r ≡ by-edges version (items row) (items edges) (edges-verdict (items row) (items edges)) ⌝ }
 {
     let order = Order::of(&row);
+    let layout = Layout::of(&row);
     match order.check(edges.as_slice()) {
-        Ok(()) => Ok(Schema { row, edges, order, version }),
+        Ok(()) => Ok(Schema {
+            row,
+            edges,
+            order,
+            layout,
+            version,
+        }),
         Err((place, source)) => Err(SchemaRefusal::Edge { place, source }),
     }
 }

@@ -1,7 +1,7 @@
 use mathlib.Core.Path.{_≡_}
 use mathlib.Core.List.{map}
 use lib.ListN.{take}
-use Rattle.model.specs.Lists.{items}
+use Rattle.bounded.specs.Lists.{items}
 use Rattle.record.specs.Pairs.{pairs}
 use Rattle.schema.specs.Reading.{edge-of}
 use Rattle.schema.proofs.rows.read_edges.Given as given

@@ -1,7 +1,7 @@
 use mathlib.Core.Path.{_≡_}
 use mathlib.Core.List.{[]}
 use lib.ListN.{length, drop}
-use Rattle.model.specs.Lists.{items}
+use Rattle.bounded.specs.Lists.{items}
 use Rattle.record.specs.Pairs.{pairs}
 use Rattle.schema.specs.Reading.{row-read}
 use Rattle.schema.proofs.Taking.{Seen}

@@ -5,8 +5,8 @@ ghost use Prim.Native.Nat.{_≤_};
 ghost use lib.ListN.{length};
 ghost use Rattle.std.specs.Results.{Cases};
 ghost use Rattle.std.specs.Vec.{made};
-ghost use Rattle.model.specs.Lists.{items};
-use crate::bounded::Bounded;
+ghost use Rattle.bounded.specs.Lists.{items};
+use crate::Bounded;
 use std::alloc::AllocError;
 use std::alloc::Global;
 

@@ -2,7 +2,7 @@
 use Prim.Native.Nat.{ℕ}
 use mathlib.Core.List.{List}
 use Rattle.std.specs.Of.Vec.{vec-items}
-use Rattle.model.specs.declared.bounded.Bounded.{Bounded}
+use Rattle.bounded.specs.declared.Bounded.{Bounded}
 
 -- Its items, from place 0 on.
 abbrev pub items : {T : Type 0} {n : ℕ} → Bounded T n → List T
