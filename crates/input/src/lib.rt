@@ -5,7 +5,6 @@ ghost use mathlib.Core.List.{[]};
 ghost use Rattle.std.specs.Results.{Cases};
 ghost use Rattle.record.specs.Lines.{held, Short};
 ghost use Rattle.input.specs.Chunks.{filled, parted};
-
 use record::LineBuffer;
 use std::io;
 use std::io::BufRead;

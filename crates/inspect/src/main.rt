@@ -4,38 +4,38 @@ use model::refusal::ReasonDisplay;
 use outline::Outline;
 use outline::OutlineDisplay;
 use record::LineBuffer;
-use schema::SchemaError;
 use schema::schema::Schema;
-use model::refusal::SchemaRefusal;
+use schema::space::Space;
 use std::alloc::Global;
 use std::error::AnyError;
 use std::io::BufReader;
 use std::io::BufWriter;
 use std::io::Write;
 
-// A line that is too long is no record's writing.
-fn read(heap: Global, line: &LineBuffer) -> Result<Schema, SchemaError> {
-    match line.line() {
-        Some(characters) => Schema::read(heap, characters),
-        None => Err(SchemaError::Refused(SchemaRefusal::Line)),
-    }
-}
-
-fn show<W: Write>(out: &mut W, heap: Global, number: u64, line: &LineBuffer) -> Result<(), AnyError> {
-    match read(heap, line) {
+// Prints what was found in one line.
+fn show<W: Write>(
+    out: &mut W,
+    heap: Global,
+    number: u64,
+    line: &LineBuffer,
+) -> Result<(), AnyError> {
+    let space = Space::new(heap)?;
+    match Schema::read_buffered(space, line) {
         Ok(schema) => {
             let version = schema.version();
             let elements = schema.row().len();
             let edges = schema.edges().len();
-            writeln!(out, "line {number}: schema version {version}, {elements} elements, {edges} sync edges")?;
+            writeln!(
+                out,
+                "line {number}: schema version {version}, {elements} elements, {edges} sync edges"
+            )?;
             let outline = Outline(&schema);
             write!(out, "{outline}")?;
         }
-        Err(SchemaError::Refused(refusal)) => {
+        Err(refusal) => {
             let reason = refusal.reason();
             writeln!(out, "line {number}: {reason}")?;
         }
-        Err(SchemaError::Memory) => return Err("no memory for a schema".into()),
     }
     Ok(())
 }

@@ -37,21 +37,25 @@ impl fmt::Display for Line as LineDisplay {
     }
 }
 
-// The line of the element at `place`. Bars and ends of blocks stand as far in as their block's beginning.
-fn line(schema: &Schema, place: usize, element: Element) -> Line {
-    let (depth, branch) = match schema.position(place) {
-        Some(position) => (position.depth, position.branch),
-        None => (0, 0),
-    };
-    let indent = match element {
-        Element::Bar | Element::AndJoin | Element::XorJoin | Element::LoopEnd(_) => depth.saturating_sub(1),
-        Element::Activity(_) | Element::AndSplit | Element::XorSplit(_) | Element::LoopStart => depth,
-    };
-    Line {
-        place,
-        element,
-        branch,
-        indent,
+impl Line {
+    // The line of the element at `place`. Bars and ends of blocks stand as far in as their block's beginning.
+    fn of(schema: &Schema, place: usize, element: Element) -> Line {
+        let (depth, branch) = match schema.position(place) {
+            Some(position) => (position.depth, position.branch),
+            None => (0, 0),
+        };
+        let indent = match element {
+            Element::Bar | Element::AndJoin | Element::XorJoin | Element::LoopEnd(_) =>
+                depth.saturating_sub(1),
+            Element::Activity(_) | Element::AndSplit | Element::XorSplit(_) | Element::LoopStart =>
+                depth,
+        };
+        Line {
+            place,
+            element,
+            branch,
+            indent,
+        }
     }
 }
 
@@ -59,7 +63,7 @@ pub impl fmt::Display for Outline<'_> as OutlineDisplay {
     fn fmt<W: fmt::Write>(&self, f: &mut fmt::Formatter<W>) -> fmt::Result {
         let schema = self.0;
         for (place, element) in schema.row().iter().enumerate() {
-            let shown = line(schema, place, *element);
+            let shown = Line::of(schema, place, *element);
             write!(f, "{shown}")?;
         }
         for edge in schema.edges().iter() {

@@ -27,8 +27,8 @@ loop-i-again c =
     let h = c .loop-i-test .taken in (
       c .loop-i .inv .0 ∙ parted-more cs _ h (c .if-character-eq10 .left),
       c .loop-i .inv .1
-      ∙ filled-more cs _ h (held (c .loop-i .line)) (c .if-character-eq10 .left)
-      ∙ ap (λ w. filled w (drop (c .loop-i .i + 1) cs)) (sym (c .push .ensures .value)),
+          ∙ filled-more cs _ h (held (c .loop-i .line)) (c .if-character-eq10 .left)
+          ∙ ap (λ w. filled w (drop (c .loop-i .i + 1) cs)) (sym (c .push .ensures .value)),
     )
 
 pub returns : need.returns

@@ -6,24 +6,25 @@ ghost use Rattle.std.specs.Options.{isSome};
 ghost use Rattle.blocks.specs.Blocks.{fault};
 ghost use Rattle.edges.specs.Verdicts.{edges-verdict};
 ghost use Rattle.bounded.specs.Lists.{items};
+ghost use Prim.Native.Nat.{ℕ};
+ghost use Rattle.record.specs.Lines.{held, held-of};
 ghost use Rattle.record.specs.Readings.{raw};
 ghost use Rattle.schema.specs.Checks.{distinct, by-blocks, by-edges, over, schema-checked, schema-read};
-ghost use Rattle.schema.specs.Schemas.{shown, Answers, Told};
+ghost use Rattle.schema.specs.Schemas.{shown};
 ghost use Rattle.schema.specs.Causes.{Read-rightly, Only-right};
-use crate::SchemaError;
-use crate::SchemaErrorFromAlloc;
 use crate::rows::read_edges;
 use crate::rows::read_row;
 use crate::schema::Schema;
+use crate::space::Space;
 use blocks::check_blocks;
 use edges::order::Order;
 use layout::Layout;
 use model::EdgeList;
 use model::Row;
 use model::refusal::SchemaRefusal;
+use record::LineBuffer;
 use record::Record;
 use record::SchemaRecord;
-use std::alloc::Global;
 
 // A row of whole blocks: the sync edges are checked.
 fn check_edges(version: u16, row: Row, edges: EdgeList) -> Result<Schema, SchemaRefusal>
@@ -84,31 +85,37 @@ fn check_record(row: Row, edges: EdgeList, given: SchemaRecord<'_>) -> Result<Sc
 }
 
 impl Schema {
-    // The schema that a record says, or why it is refused. Memory is taken first, for all that a schema
-    // can hold.
-    pub fn check(heap: Global, given: SchemaRecord<'_>) -> Result<Schema, SchemaError>
-        ensures { λ r. ⌜ Answers (schema-checked (raw (given .entry))) r ⌝ }
+    // The schema that a record says, or why it is refused.
+    pub fn check(space: Space, given: SchemaRecord<'_>) -> Result<Schema, SchemaRefusal>
+        ensures { λ r. ⌜ shown r ≡ schema-checked (raw (given .entry)) ⌝ }
     {
-        let row = Row::new(heap)?;
-        let edges = EdgeList::new(heap)?;
-        match check_record(row, edges, given) {
-            Ok(schema) => Ok(schema),
-            Err(refusal) => Err(SchemaError::Refused(refusal)),
-        }
+        let (row, edges) = space.into_parts();
+        check_record(row, edges, given)
     }
 
     // The schema that a line says, or why it is refused.
-    pub fn read(heap: Global, line: &[u8]) -> Result<Schema, SchemaError>
-        ensures value { λ r. ⌜ Answers (schema-read (now (line .entry))) r ⌝ }
-        ensures rightly { λ r. ⌜ Told (Read-rightly (now (line .entry))) r ⌝ }
-        ensures only { λ r. ⌜ Told (Only-right (now (line .entry))) r ⌝ }
+    pub fn read(space: Space, line: &[u8]) -> Result<Schema, SchemaRefusal>
+        ensures value { λ r. ⌜ shown r ≡ schema-read (now (line .entry)) ⌝ }
+        ensures rightly { λ r. ⌜ Read-rightly (now (line .entry)) (shown r) ⌝ }
+        ensures only { λ r. ⌜ Only-right (now (line .entry)) (shown r) ⌝ }
     {
         let Some(decoded) = Record::decode(line) else {
-            return Err(SchemaError::Refused(SchemaRefusal::Line));
+            return Err(SchemaRefusal::Line);
         };
         let Some(given) = SchemaRecord::read(decoded.bytes()) else {
-            return Err(SchemaError::Refused(SchemaRefusal::Line));
+            return Err(SchemaRefusal::Line);
         };
-        Schema::check(heap, given)
+        Schema::check(space, given)
+    }
+
+    // The same for a line that came in through a buffer, which holds no more of it than a line may have: the
+    // answer is that to the whole line.
+    pub fn read_buffered(space: Space, line: &LineBuffer) -> Result<Schema, SchemaRefusal>
+        ensures { λ r. ⌜ ((cs : List ℕ) → held (now (line .entry)) ≡ held-of cs → shown r ≡ schema-read cs) ⌝ }
+    {
+        match line.line() {
+            Some(characters) => Schema::read(space, characters),
+            None => Err(SchemaRefusal::Line),
+        }
     }
 }

@@ -47,8 +47,8 @@ loop-place-again c =
       ap length grown ∙ length-append row (x ∷ []) ∙ ap (λ n. n + 1) (c .loop-place .inv .0),
       λ u. ap (λ s. has s u) (c .with-id-seen .ensures) ∙ keeps ps _ row s _ (at .0) (c .in-Some .bytes) (at .1) x e u ∙ ap (λ xs. among xs u) (sym grown),
       c .loop-place .inv .2
-      ∙ goes ps _ row s _ (at .0) (c .in-Some .bytes) (at .1) x e
-      ∙ ap (λ xs. row-read xs (c .loop-place .place + 1) (drop (c .loop-place .place + 1) ps)) (sym grown),
+          ∙ goes ps _ row s _ (at .0) (c .in-Some .bytes) (at .1) x e
+          ∙ ap (λ xs. row-read xs (c .loop-place .place + 1) (drop (c .loop-place .place + 1) ps)) (sym grown),
     )
 
 pub returns : need.returns

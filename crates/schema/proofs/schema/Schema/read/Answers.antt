@@ -10,7 +10,7 @@ use Rattle.record.specs.Readings.{raw}
 use Rattle.record.specs.SchemaRecords.{read-schema}
 use Rattle.schema.specs.Checks.{SchemaParts, schema-read, schema-checked}
 use Rattle.schema.specs.Causes.{Read-rightly}
-use Rattle.schema.proofs.Lines.{of-decoded, of-bytes, told-so}
+use Rattle.schema.proofs.Lines.{of-decoded, of-bytes}
 use Rattle.schema.proofs.Rights.{read-rightly}
 use Rattle.schema.proofs.Onlys.{only-read}
 use Rattle.schema.proofs.schema.Schema.read.Needs as need
@@ -38,8 +38,5 @@ pub returns : need.returns
 returns c =
     let line = c .args .line .now in
     let e : schema-checked (raw (c .in-Some-read .given)) ≡ schema-read line = of-bytes line _ _ (c .in-Some .ensures tt .value) (c .in-Some-read .ensures tt .value ∙ ap read-schema (c .bytes .ensures)) in
-    record {
-      value = told-so (λ v. v ≡ schema-checked (raw (c .in-Some-read .given))) _ (λ v h. h ∙ e) (c .check .result) (c .check .ensures);
-      rightly = told-so (λ v. v ≡ schema-checked (raw (c .in-Some-read .given))) _ (λ v h. right line v (h ∙ e)) (c .check .result) (c .check .ensures);
-      only = told-so (λ v. v ≡ schema-checked (raw (c .in-Some-read .given))) _ (λ v h. only line v (h ∙ e)) (c .check .result) (c .check .ensures);
-    }
+    let v = c .check .ensures ∙ e in
+    record { value = v; rightly = right line _ v; only = only line _ v }
