@@ -1,3 +1,3 @@
-pub mod Parses
-pub mod Firsts
-pub mod Steps
+pub mod RowsOfTrees
+pub mod FirstFaults
+pub mod CheckSteps

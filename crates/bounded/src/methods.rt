@@ -11,7 +11,7 @@ use std::alloc::AllocError;
 use std::alloc::Global;
 
 // A list has no place for one more item.
-#[derive(Clone, Copy, PartialEq, Eq, Debug)]
+#[derive(Clone, Copy)]
 pub struct Full;
 
 impl<T: Copy, const LIMIT: usize> Bounded<T, LIMIT> {

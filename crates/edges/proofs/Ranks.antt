@@ -1,4 +1,4 @@
--- Nodes without a cycle stand in ranks. Assumes nothing.
+-- Where no path returns, the number of nodes that lead to a node is a rank. Assumes nothing.
 use mathlib.Core.Path.{_≡_, refl, sym, ap, subst, _∙_}
 use mathlib.Core.List.{List, [], _∷_, _++_}
 use mathlib.Core.Bool.{Bool, true, false, cond}
@@ -13,8 +13,8 @@ use Rattle.ids.specs.declared.IdSet.{IdSet}
 use Rattle.edges.specs.Edges.{within}
 use Rattle.model.specs.Paths.{Listed, Path, by-order, by-edge, then-order, then-edge, Answer, Acyclic, Ranked}
 use Rattle.edges.specs.Verdicts.{Low-edges}
-use Rattle.edges.proofs.Reaches.{joined-path}
-use Rattle.edges.proofs.Follows.{Follows}
+use Rattle.edges.proofs.PathsByEdges.{joined-path}
+use Rattle.edges.proofs.ReachableSets.{Follows}
 
 abbrev one : Bool → ℕ
 one true = 1

@@ -1,4 +1,9 @@
--- What stands ahead of each node of a row and beside it, from left to right. Assumes nothing.
+-- What a pass from left to right gathers about the nodes of a row. Assumes nothing.
+--   Spot            the sets of nodes that are kept at a gap
+--   step x st       the gap behind element x, and the blocks open there
+--   befores xs      for each id the nodes that precede it
+--   partners xs     for each id the earlier activities that a sync edge may join it with
+-- `Ordered`, `Tells` and `Judges` (Verdicts) say what these mean for the row's tree.
 use mathlib.Core.Path.{_≡_}
 use mathlib.Core.List.{List, [], _∷_}
 use mathlib.Core.Bool.{Bool, true, false, cond}
@@ -23,31 +28,35 @@ spot a s b m = record { ahead = a; seen = s; beside = b; mates = m }
 abbrev pub opened : Spot → IdSet → Bool → Opened
 opened s g p = record { origin = s; gathered = g; parallel = p }
 
--- past a decision or a test
+-- Past a decision or a test.
 abbrev pub past-node : ℕ → Spot → Spot
 past-node i s = spot (s .ahead) (union (s .seen) (only i)) (s .beside) (s .mates)
 
+-- Past an activity, which later ones with the same innermost loop may be joined with.
 abbrev pub past-activity : ℕ → Spot → Spot
 past-activity i s = spot (s .ahead) (union (s .seen) (only i)) (s .beside) (union (s .mates) (only i))
 
--- at the head of a block's first branch
+-- At the head of a block's first branch.
 abbrev pub enter : Spot → Spot
 enter s = spot (union (s .ahead) (s .seen)) empty (s .beside) (s .mates)
 
+-- In a loop no activity from outside has the same innermost loop.
 abbrev pub enter-loop : Spot → Spot
 enter-loop s = spot (s .ahead) (s .seen) (s .beside) empty
 
--- at the head of the next branch: that of an AND block stands beside the one before
+-- At the head of the next branch. In an AND block the branch before stands beside it.
 abbrev pub turn : Bool → Spot → Spot
 turn p s = spot (s .ahead) empty (cond p (union (s .beside) (s .seen)) (s .beside)) (s .mates)
 
--- after a join
+-- Behind a join: all nodes of the block have been seen.
 abbrev pub leave : Spot → IdSet → Spot → Spot
 leave o g s = spot (o .ahead) (union (o .seen) (union g (s .seen))) (o .beside) (s .mates)
 
+-- Behind a loop end, with the activities of before the loop to be joined with again.
 abbrev pub leave-loop : ℕ → Spot → Spot → Spot
 leave-loop i o s = spot (s .ahead) (union (s .seen) (only i)) (s .beside) (o .mates)
 
+-- Bars and ends with no block open do nothing.
 abbrev pub at-bar : Spot → Option Opened → Move
 at-bar s None = Stay s
 at-bar s (Some o) = Turn (turn (o .parallel) s) (opened (o .origin) (union (o .gathered) (s .seen)) (o .parallel))
@@ -60,6 +69,7 @@ abbrev pub at-loop-end : ℕ → Spot → Option Opened → Move
 at-loop-end i s None = Stay s
 at-loop-end i s (Some o) = Close (leave-loop i (o .origin) s)
 
+-- What an element does at a gap, within the innermost open block.
 abbrev pub moves : Element → Spot → Option Opened → Move
 moves (Activity i) s top = Stay (past-activity i s)
 moves AndSplit s top = Open (enter s) (opened s empty true)
@@ -109,11 +119,11 @@ abbrev pub noted : (Bool → Spot → IdSet) → List IdSet → State → List E
 noted f sets st [] = sets
 noted f sets st (x ∷ xs) = noted f (note f x (st .here) sets) (step x st) xs
 
--- the nodes that precede it
+-- The nodes that precede it.
 abbrev pub preceding : Bool → Spot → IdSet
 preceding k s = union (s .ahead) (s .seen)
 
--- the earlier activities that a sync edge may join it with
+-- The earlier activities that a sync edge may join it with.
 abbrev pub joinable : Bool → Spot → IdSet
 joinable k s = cond k (intersection (s .beside) (s .mates)) empty
 

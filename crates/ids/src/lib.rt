@@ -6,7 +6,7 @@ ghost use lib.Dec.{eqb, ltb};
 ghost use Rattle.ids.specs.Sets.{has, empty, only, union, intersection};
 
 // A set of ids 0 to 63; an id above 63 is never in one.
-#[derive(Clone, Copy, PartialEq, Eq, Debug)]
+#[derive(Clone, Copy)]
 pub struct IdSet {
     bits: u64,
 }

@@ -1,10 +1,14 @@
--- How the nodes of a tree stand to one another. Assumes nothing.
+-- Which nodes of a tree a sync edge may join. Assumes nothing.
+--   In t u           node u is in the tree
+--   Beside t u v     an AND block holds u in an earlier branch than v
+--   Same-loop t u v  activities with the same innermost loop, or in none
+--   Joins t u v      a sync edge may lead between u and v
 use mathlib.Core.Path.{_≡_}
 use mathlib.Core.Logic.{_⊎_}
 use Prim.Native.Nat.{ℕ, _<_}
 use Rattle.model.specs.Trees.{Seq, nil, cons, Item, activity, loop, and, xor, Branches, last, bar}
 
--- u is a node: an activity, a test or a decision.
+-- An activity, a test or a decision of the tree, however deep.
 abbrev mutual
   pub In : Seq → ℕ → Type 0
   In nil u = ⊥
@@ -20,7 +24,7 @@ abbrev mutual
   In-branches (last t) u = In t u
   In-branches (bar t b) u = In t u ⊎ In-branches b u
 
--- Some AND block holds u in an earlier branch than v.
+-- Some AND block of the tree holds u in an earlier branch than v.
 abbrev mutual
   pub Beside : Seq → ℕ → ℕ → Type 0
   Beside nil u v = ⊥
@@ -36,11 +40,12 @@ abbrev mutual
   Beside-branches (last t) u v = Beside t u v
   Beside-branches (bar t b) u v = Beside t u v ⊎ Beside-branches b u v
 
+  -- u stands in an earlier branch of these than v.
   pub Across : Branches → ℕ → ℕ → Type 0
   Across (last t) u v = ⊥
   Across (bar t b) u v = (In t u × In-branches b v) ⊎ Across b u v
 
--- u is an activity in no loop of the tree.
+-- u is an activity that no loop of the tree holds.
 abbrev mutual
   pub Level : Seq → ℕ → Type 0
   Level nil u = ⊥
@@ -56,7 +61,7 @@ abbrev mutual
   Level-branches (last t) u = Level t u
   Level-branches (bar t b) u = Level t u ⊎ Level-branches b u
 
--- u and v are activities with one innermost loop.
+-- Some loop of the tree is the innermost around both activities u and v.
 abbrev mutual
   pub Looped : Seq → ℕ → ℕ → Type 0
   Looped nil u v = ⊥

@@ -1,4 +1,10 @@
--- Ids in a row, and precedence by its places. Assumes nothing.
+-- The nodes of a row, and which precede which. Assumes nothing.
+--   Bears x u       element x is the node u
+--   Among xs u      node u is in the row
+--   Unique, Low     each id is used once; ids end at 63
+--   Earlier xs u v  u stands earlier than v
+--   Split t u v     some block holds u in an earlier branch than v
+--   Precedes t u v  u precedes v
 use mathlib.Core.Path.{_≡_}
 use mathlib.Core.List.{List, [], _∷_}
 use mathlib.Core.Logic.{_⊎_}
@@ -8,7 +14,7 @@ use Rattle.model.specs.declared.Element.the-variants.{Activity, AndSplit, Bar,
 use Rattle.model.specs.Trees.{Seq, nil, cons, Item, activity, loop, and, xor, Branches, last, bar, flatten}
 use Rattle.model.specs.Relations.{Across}
 
--- The element of node u.
+-- Activities, decisions and tests are nodes; other elements are none.
 abbrev pub Bears : Element → ℕ → Type 0
 Bears (Activity i) u = u ≡ i
 Bears AndSplit u = ⊥
@@ -19,6 +25,7 @@ Bears XorJoin u = ⊥
 Bears LoopStart u = ⊥
 Bears (LoopEnd i) u = u ≡ i
 
+-- Some element of the row is node u.
 abbrev pub Among : List Element → ℕ → Type 0
 Among [] u = ⊥
 Among (x ∷ xs) u = Bears x u ⊎ Among xs u
@@ -32,12 +39,12 @@ Unique (x ∷ xs) = ((u : ℕ) → Bears x u → Among xs u → ⊥) × Unique x
 abbrev pub Low : List Element → Type 0
 Low xs = (u : ℕ) → Among xs u → u < 64
 
--- u stands earlier than v.
+-- Some element that is u has one that is v behind it.
 abbrev pub Earlier : List Element → ℕ → ℕ → Type 0
 Earlier [] u v = ⊥
 Earlier (x ∷ xs) u v = (Bears x u × Among xs v) ⊎ Earlier xs u v
 
--- Some block holds u in an earlier branch than v.
+-- Some AND or XOR block of the tree, however deep, holds u in an earlier branch than v.
 abbrev mutual
   pub Split : Seq → ℕ → ℕ → Type 0
   Split nil u v = ⊥

@@ -8,7 +8,7 @@ use bounded::Bounded;
 
 // One element of a schema's row. Activities, decisions (of an XOR split) and tests (of a loop end) are
 // its nodes, and only they have an id.
-#[derive(Clone, Copy, PartialEq, Eq, Debug)]
+#[derive(Clone, Copy, PartialEq, Eq)]
 pub enum Element {
     Activity(u8),
     AndSplit,
@@ -24,7 +24,7 @@ pub enum Element {
 const NO_ID: u8 = 0xFF;
 
 // A sync edge: its target waits for its source.
-#[derive(Clone, Copy, PartialEq, Eq, Debug)]
+#[derive(Clone, Copy, PartialEq, Eq)]
 pub struct Edge {
     pub source: u8,
     pub target: u8,

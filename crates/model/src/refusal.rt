@@ -20,7 +20,7 @@ pub enum SchemaRefusal {
 
 // A refusal as it is told: its number, the layer of checks that gave it, the place in what was checked and
 // the id concerned, where there are such.
-#[derive(Clone, Copy, PartialEq, Eq, Debug)]
+#[derive(Clone, Copy)]
 pub struct Reason {
     pub place: Option<usize>,
     pub id: Option<u8>,

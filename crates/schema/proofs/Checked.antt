@@ -20,7 +20,7 @@ use Rattle.model.specs.Elements.{node-id}
 use Rattle.model.specs.Rows.{Bears, Among, Unique, Low}
 use Rattle.model.specs.Trees.{Nested}
 use Rattle.blocks.specs.Blocks.{fault}
-use Rattle.blocks.proofs.Parses.{tells-ok}
+use Rattle.blocks.proofs.RowsOfTrees.{tells-ok}
 use Rattle.edges.specs.declared.order.Order.{Order}
 use Rattle.edges.specs.Places.{OrderOf}
 use Rattle.edges.specs.Verdicts.{edges-verdict}

@@ -22,10 +22,10 @@ use Rattle.model.specs.Trees.{Seq, flatten, Nested, Extends, First}
 use Rattle.model.specs.Paths.{Proper, Answer}
 use Rattle.model.proofs.Bytes.{read-is, is-read}
 use Rattle.blocks.specs.Blocks.{fault}
-use Rattle.blocks.proofs.Firsts.{first}
-use Rattle.blocks.proofs.Parses.{tells-ok, tree-clean}
+use Rattle.blocks.proofs.FirstFaults.{first}
+use Rattle.blocks.proofs.RowsOfTrees.{tells-ok, tree-clean}
 use Rattle.edges.specs.Verdicts.{edges-verdict}
-use Rattle.edges.proofs.Told.{tells}
+use Rattle.edges.proofs.OrderTold.{tells}
 use Rattle.record.specs.SchemaRecords.{RawSchema, schema-in}
 use Rattle.record.proofs.Writings.{reading-inverts-writing}
 use Rattle.schema.specs.Reading.{used, row-taken, row-read}

@@ -19,10 +19,10 @@ use Rattle.model.specs.declared.refusal.SchemaRefusal.{SchemaRefusal}
 use Rattle.model.specs.declared.refusal.SchemaRefusal.the-variants as refusal
 use Rattle.model.specs.Trees.{Seq, flatten, Nested}
 use Rattle.blocks.specs.Blocks.{fault}
-use Rattle.blocks.proofs.Firsts.{first}
-use Rattle.blocks.proofs.Parses.{tells-ok}
+use Rattle.blocks.proofs.FirstFaults.{first}
+use Rattle.blocks.proofs.RowsOfTrees.{tells-ok}
 use Rattle.edges.specs.Verdicts.{edges-verdict}
-use Rattle.edges.proofs.Told.{tells, leaves}
+use Rattle.edges.proofs.OrderTold.{tells, leaves}
 use Rattle.record.specs.SchemaRecords.{RawSchema, schema-in}
 use Rattle.record.proofs.Writings.{reading-inverts-writing}
 use Rattle.schema.specs.Reading.{row-read}

@@ -3,8 +3,8 @@ use mathlib.Core.List.{[]}
 use Rattle.blocks.specs.Blocks.{verdict, fault}
 use Rattle.model.specs.declared.Element.the-variants.{Activity}
 use Rattle.std.proofs.shelf.Results.{err-from-errBy}
-use Rattle.blocks.proofs.Steps.{closed-at-end, refused-outside}
-use Rattle.blocks.proofs.Firsts.{told}
+use Rattle.blocks.proofs.CheckSteps.{closed-at-end, refused-outside}
+use Rattle.blocks.proofs.FirstFaults.{told}
 use Rattle.blocks.proofs.check_blocks.Needs as need
 
 pub returns-in-Break-end : need.returns-in-Break-end

@@ -3,7 +3,7 @@ use lib.ListN.{take, drop}
 use Prim.Native.Nat.{_+_}
 use Rattle.std.proofs.shelf.Lists.{at-drop-all}
 use Rattle.edges.specs.Edges.{judged}
-use Rattle.edges.proofs.Judges.{judged-at}
+use Rattle.edges.proofs.CheckSteps.{judged-at}
 use Rattle.edges.proofs.judge.Needs as need
 
 pub returns-then-not-proper : need.returns-then-not-proper

@@ -11,7 +11,7 @@ ghost use Rattle.record.specs.Lines.{held, held-of};
 ghost use Rattle.record.specs.Readings.{raw};
 ghost use Rattle.schema.specs.Checks.{distinct, by-blocks, by-edges, over, schema-checked, schema-read};
 ghost use Rattle.schema.specs.Schemas.{shown};
-ghost use Rattle.schema.specs.Causes.{Read-rightly, Only-right};
+ghost use Rattle.schema.specs.Causes.{Rightly, Read-rightly, Only-right};
 use crate::rows::read_edges;
 use crate::rows::read_row;
 use crate::schema::Schema;
@@ -87,7 +87,8 @@ fn check_record(row: Row, edges: EdgeList, given: SchemaRecord<'_>) -> Result<Sc
 impl Schema {
     // The schema that a record says, or why it is refused.
     pub fn check(space: Space, given: SchemaRecord<'_>) -> Result<Schema, SchemaRefusal>
-        ensures { λ r. ⌜ shown r ≡ schema-checked (raw (given .entry)) ⌝ }
+        ensures value { λ r. ⌜ shown r ≡ schema-checked (raw (given .entry)) ⌝ }
+        ensures rightly { λ r. ⌜ Rightly (raw (given .entry)) (shown r) ⌝ }
     {
         let (row, edges) = space.into_parts();
         check_record(row, edges, given)

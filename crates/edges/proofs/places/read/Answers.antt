@@ -3,7 +3,7 @@ use native.Mathlib.Omega.{arith}
 use Rattle.std.proofs.shelf.Lists.{at-drop-all}
 use Rattle.edges.specs.Places.{noted, state, preceding, joinable}
 use Rattle.stack.specs.Items.{items}
-use Rattle.edges.proofs.Notes.{noted-more}
+use Rattle.edges.proofs.PassSteps.{noted-more}
 use Rattle.edges.proofs.places.read.Needs as need
 
 pub loop-element-again : need.loop-element-again

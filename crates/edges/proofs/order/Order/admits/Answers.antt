@@ -5,7 +5,7 @@ use lib.ListN.{length}
 use Rattle.std.proofs.shelf.Lists.{take-all}
 use Rattle.edges.specs.Edges.{proper}
 use Rattle.edges.specs.Verdicts.{edge-admitted}
-use Rattle.edges.proofs.Told.{judges, of-order-edge}
+use Rattle.edges.proofs.OrderTold.{judges, of-order-edge}
 use Rattle.edges.proofs.order.Order.admits.Needs as need
 
 pub returns : need.returns

@@ -3,7 +3,7 @@ use mathlib.Core.List.{[]}
 use Rattle.edges.specs.Edges.{judged}
 use Rattle.edges.specs.Places.{OrderOf, partners}
 use Rattle.edges.specs.Verdicts.{edges-checked, edges-verdict}
-use Rattle.edges.proofs.Told.{tells, leaves, of-order}
+use Rattle.edges.proofs.OrderTold.{tells, leaves, of-order}
 use Rattle.edges.proofs.order.Order.check.Needs as need
 
 pub returns : need.returns

@@ -1,6 +1,6 @@
 use mathlib.Core.Path.{_∙_, ap}
 use Rattle.edges.specs.Edges.{within}
-use Rattle.edges.proofs.Told.{ordered}
+use Rattle.edges.proofs.OrderTold.{ordered}
 use Rattle.edges.proofs.order.Order.precedes.Needs as need
 
 pub returns : need.returns

@@ -38,5 +38,5 @@ pub returns : need.returns
 returns c =
     let line = c .args .line .now in
     let e : schema-checked (raw (c .in-Some-read .given)) ≡ schema-read line = of-bytes line _ _ (c .in-Some .ensures tt .value) (c .in-Some-read .ensures tt .value ∙ ap read-schema (c .bytes .ensures)) in
-    let v = c .check .ensures ∙ e in
+    let v = c .check .ensures .value ∙ e in
     record { value = v; rightly = right line _ v; only = only line _ v }

@@ -1,6 +1,6 @@
 use mathlib.Core.Path.{_≡_, sym, ap, _∙_}
 use Rattle.edges.specs.Verdicts.{edges-checked}
-use Rattle.edges.proofs.Told.{of-order}
+use Rattle.edges.proofs.OrderTold.{of-order}
 use Rattle.bounded.specs.Lists.{items}
 use Rattle.schema.proofs.Passing.{passed-all}
 use Rattle.schema.proofs.schema.checks.check_edges.Needs as need

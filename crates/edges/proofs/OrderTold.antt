@@ -1,4 +1,4 @@
--- The sets of a tree's row are its relations. Assumes nothing.
+-- The sets of a row are the relations of its tree: the laws of the public contracts. Assumes nothing.
 use mathlib.Core.Path.{_≡_, refl, sym, ap, subst, _∙_}
 use mathlib.Core.List.{List, [], _∷_}
 use mathlib.Core.Bool.{Bool, true, false, cond, _||_, _&&_}
@@ -21,21 +21,21 @@ use Rattle.edges.specs.declared.places.Spot.{Spot}
 use Rattle.edges.specs.Edges.{within, joined, judged, closed, proper}
 use Rattle.edges.specs.Places.{nowhere, preceding, joinable, no-sets, befores, partners, OrderOf}
 use Rattle.model.specs.Relations.{In, Beside, Level, Same-loop, Joins}
-use Rattle.edges.proofs.Orders.{Before, Once, Small}
+use Rattle.edges.proofs.TreeOrder.{Before, Once, Small}
 use Rattle.model.specs.Paths.{Path, by-order, by-edge, then-order, then-edge, Answer, Acyclic, Proper, Ranked}
 use Rattle.edges.specs.declared.order.Order.{Order}
 use Rattle.edges.specs.Verdicts.{edges-checked, edges-verdict, Tells, Leaves, edge-admitted, edge-verdict, Low-edges, Judges, Ordered}
 use Rattle.ids.proofs.Laws.{has-empty}
-use Rattle.edges.proofs.Follows.{Follows, follows-none, follows-all, alone, decides-proper, answers, acyclic}
-use Rattle.edges.proofs.Spots.{at, acts, write, on-tree, long, other, value}
-use Rattle.edges.proofs.Meanings.{Has, has-both, has-nothing, Means, None}
-use Rattle.edges.proofs.Sides.{Mate, before-in, before-left, beside-in, mate-in, transitive, irreflexive, beside-apart}
-use Rattle.edges.proofs.Sees.{sees, sides, mates}
+use Rattle.edges.proofs.ReachableSets.{Follows, follows-none, follows-all, alone, decides-proper, answers, acyclic}
+use Rattle.edges.proofs.TreeGaps.{at, acts, write, on-tree, long, other, value}
+use Rattle.edges.proofs.GapMeanings.{Has, has-both, has-nothing, Means, None}
+use Rattle.edges.proofs.NodeRelations.{Mate, before-in, before-left, beside-in, mate-in, transitive, irreflexive, beside-apart}
+use Rattle.edges.proofs.NodeGaps.{sees, sides, mates}
 use Rattle.model.specs.Rows.{Unique, Low, Precedes}
-use Rattle.edges.proofs.Uniques.{once-tree, small-tree}
+use Rattle.edges.proofs.RowIds.{once-tree, small-tree}
 use Rattle.edges.proofs.Ranks.{answer-low, ranked}
-use Rattle.edges.proofs.Literal.{precedes, before}
-use Rattle.edges.proofs.Loops.{mate-same, same-turn, same-mate, beside-left, mate-acts, in?}
+use Rattle.edges.proofs.RowOrder.{precedes, before}
+use Rattle.edges.proofs.SharedLoops.{mate-same, same-turn, same-mate, beside-left, mate-acts, in?}
 
 at-empty : (v : ℕ) → getD no-sets v empty ≡ empty
 at-empty v = ⊎-elim (λ h. getD-replicate 64 v empty empty h) (λ h. getD-past no-sets v empty (subst (λ n. n ≤ v) (sym (length-replicate {A = IdSet} 64 empty)) h)) (cases-lt v 64)

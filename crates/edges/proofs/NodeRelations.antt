@@ -1,11 +1,11 @@
--- What stands to something is a node. Assumes nothing.
+-- What is related to something is a node; precedence is transitive, and no node precedes itself. Assumes nothing.
 use mathlib.Core.Path.{_≡_, refl, sym, ap, subst, _∙_}
 use mathlib.Core.Bool.{Bool, true, false}
 use mathlib.Core.Logic.{_⊎_, inl, inr}
 use Prim.Native.Nat.{ℕ, _<_}
 use Rattle.model.specs.Trees.{Seq, nil, cons, Item, activity, loop, and, xor, Branches, last, bar}
 use Rattle.model.specs.Relations.{In, In-item, In-branches, Beside, Beside-item, Beside-branches, Across, Level, Level-item, Level-branches}
-use Rattle.edges.proofs.Orders.{Before, Before-item, Before-branches, Once, Once-item, Once-branches}
+use Rattle.edges.proofs.TreeOrder.{Before, Before-item, Before-branches, Once, Once-item, Once-branches}
 
 module _ (u v : ℕ) where
   mutual

@@ -1,4 +1,4 @@
--- A row's ids and precedence are those of its tree. Assumes nothing.
+-- A row with distinct, low ids is the row of a tree with such ids. Assumes nothing.
 use mathlib.Core.Path.{_≡_, refl, sym, ap, subst, _∙_}
 use mathlib.Core.List.{List, [], _∷_}
 use mathlib.Core.Logic.{_⊎_, inl, inr, ⊎-elim}
@@ -7,10 +7,10 @@ use Rattle.model.specs.declared.Element.{Element}
 use Rattle.model.specs.declared.Element.the-variants.{Activity, AndSplit, Bar, AndJoin, XorSplit, XorJoin, LoopStart, LoopEnd}
 use Rattle.model.specs.Trees.{Seq, nil, cons, Item, activity, loop, and, xor, Branches, last, bar, spell, spell-item, spell-branches, flatten}
 use Rattle.model.specs.Relations.{In, In-item, In-branches, Across}
-use Rattle.edges.proofs.Orders.{Before, Before-item, Before-branches, Once, Once-item, Once-branches, Small}
+use Rattle.edges.proofs.TreeOrder.{Before, Before-item, Before-branches, Once, Once-item, Once-branches, Small}
 use Rattle.model.specs.Rows.{Bears, Among, Unique, Low, Earlier, Split, Split-item, Split-branches, Precedes}
-use Rattle.edges.proofs.Sides.{before-in, before-in-item, before-in-branches, before-left, before-left-item, before-left-branches, across-in}
-use Rattle.edges.proofs.Loops.{across-left}
+use Rattle.edges.proofs.NodeRelations.{before-in, before-in-item, before-in-branches, before-left, before-left-item, before-left-branches, across-in}
+use Rattle.edges.proofs.SharedLoops.{across-left}
 
 module _ (u : ℕ) where
   mutual

@@ -1,4 +1,4 @@
--- Precedence by the tree, and trees that use each id once. Assumes nothing.
+-- Precedence and distinct ids, said over trees alone. Assumes nothing.
 use mathlib.Core.Path.{_≡_}
 use mathlib.Core.Logic.{_⊎_}
 use Prim.Native.Nat.{ℕ, _<_}

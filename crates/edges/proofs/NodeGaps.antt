@@ -1,4 +1,4 @@
--- What the gap before a node tells of it. Assumes nothing.
+-- What the sets at the gap before a node say about that node. Assumes nothing.
 use mathlib.Core.Path.{_≡_, refl, sym, ap, subst, _∙_}
 use mathlib.Core.Bool.{Bool, true, false, cond, _||_, _&&_}
 use mathlib.Core.Logic.{_⊎_, inl, inr, ⊎-elim}
@@ -12,10 +12,10 @@ use Rattle.model.specs.Trees.{Seq, nil, cons, Item, activity, loop, and, xor, B
 use Rattle.edges.specs.declared.places.Spot.{Spot}
 use Rattle.edges.specs.Places.{past-node, past-activity, enter, enter-loop, turn, leave, leave-loop}
 use Rattle.model.specs.Relations.{In, In-item, In-branches, Beside, Beside-item, Beside-branches, Across, Level, Level-item, Level-branches}
-use Rattle.edges.proofs.Orders.{Before, Before-item, Before-branches, Once, Once-item, Once-branches}
-use Rattle.edges.proofs.Spots.{after, after-item, after-branches, at, at-item, at-branches, acts, acts-item, acts-branches}
-use Rattle.edges.proofs.Meanings.{Has, has-union, Means, _∪_, None, Turned, Small, enters, enters-loop, passes-node, turns, means, means-item}
-use Rattle.edges.proofs.Sides.{before-in, before-in-item, before-in-branches, beside-in, beside-in-item, beside-in-branches, across-in, Mate, Mate-item, Mate-branches, level-in, level-in-item, level-in-branches, mate-in, mate-in-item, mate-in-branches}
+use Rattle.edges.proofs.TreeOrder.{Before, Before-item, Before-branches, Once, Once-item, Once-branches}
+use Rattle.edges.proofs.TreeGaps.{after, after-item, after-branches, at, at-item, at-branches, acts, acts-item, acts-branches}
+use Rattle.edges.proofs.GapMeanings.{Has, has-union, Means, _∪_, None, Turned, Small, enters, enters-loop, passes-node, turns, means, means-item}
+use Rattle.edges.proofs.NodeRelations.{before-in, before-in-item, before-in-branches, beside-in, beside-in-item, beside-in-branches, across-in, Mate, Mate-item, Mate-branches, level-in, level-in-item, level-in-branches, mate-in, mate-in-item, mate-in-branches}
 
 never : {X : Type 0} → false ≡ true → X
 never e = absurd (let z : _≡_ {A = ℕ} 0 1 = cc in omega arith)

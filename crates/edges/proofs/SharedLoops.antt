@@ -1,4 +1,4 @@
--- Activities beside one another that share their innermost loop. Assumes nothing.
+-- Two activities beside each other share their innermost loop exactly if the pass kept the one for the other. Assumes nothing.
 use mathlib.Core.Path.{_≡_, refl, sym, ap, subst, _∙_}
 use mathlib.Core.Bool.{Bool, true, false}
 use mathlib.Core.Logic.{_⊎_, inl, inr, ⊎-elim}
@@ -6,9 +6,9 @@ use Prim.Native.Nat.{ℕ, _<_}
 use Rattle.std.proofs.shelf.Tests.{cases-eq}
 use Rattle.model.specs.Trees.{Seq, nil, cons, Item, activity, loop, and, xor, Branches, last, bar}
 use Rattle.model.specs.Relations.{In, In-item, In-branches, Beside, Beside-item, Beside-branches, Across, Level, Level-item, Level-branches, Looped, Looped-item, Looped-branches, Same-loop}
-use Rattle.edges.proofs.Orders.{Once, Once-item, Once-branches}
-use Rattle.edges.proofs.Spots.{acts, acts-item, acts-branches}
-use Rattle.edges.proofs.Sides.{Mate, Mate-item, Mate-branches, beside-in, beside-in-item, beside-in-branches, across-in, level-in, level-in-item, level-in-branches, mate-in, mate-in-item, mate-in-branches}
+use Rattle.edges.proofs.TreeOrder.{Once, Once-item, Once-branches}
+use Rattle.edges.proofs.TreeGaps.{acts, acts-item, acts-branches}
+use Rattle.edges.proofs.NodeRelations.{Mate, Mate-item, Mate-branches, beside-in, beside-in-item, beside-in-branches, across-in, level-in, level-in-item, level-in-branches, mate-in, mate-in-item, mate-in-branches}
 
 abbrev Same-item : Item → ℕ → ℕ → Type 0
 Same-item x u v = (Level-item x u × Level-item x v) ⊎ Looped-item x u v

@@ -1,4 +1,4 @@
--- The gaps of a tree's row, by the tree. Assumes nothing.
+-- What the pass keeps at the gaps of a row, computed over its tree. Assumes nothing.
 use mathlib.Core.Path.{_≡_, refl, sym, ap, subst, _∙_}
 use mathlib.Core.List.{List, [], _∷_}
 use mathlib.Core.Bool.{Bool, true, false, cond}
@@ -16,7 +16,7 @@ use Rattle.edges.specs.declared.places.Spot.{Spot}
 use Rattle.edges.specs.declared.places.Opened.{Opened}
 use Rattle.edges.specs.Places.{past-node, past-activity, enter, enter-loop, turn, leave, leave-loop, opened, State, state, noted}
 use Rattle.model.specs.Relations.{In, In-item, In-branches}
-use Rattle.edges.proofs.Orders.{Once, Once-item, Once-branches}
+use Rattle.edges.proofs.TreeOrder.{Once, Once-item, Once-branches}
 
 -- the gap after
 abbrev mutual

@@ -1,4 +1,4 @@
--- One edge more of the searches of `Edges`. Assumes nothing.
+-- The check of edges goes one edge further. Assumes nothing.
 use mathlib.Core.Path.{_≡_, refl, sym, ap, _∙_}
 use mathlib.Core.List.{List, [], _∷_, _++_, map}
 use mathlib.Core.Bool.{Bool, true, false, cond, not, _||_, _&&_}

@@ -1,4 +1,4 @@
--- Sets of ids that follow the paths. Assumes nothing.
+-- Which paths one edge more opens. Assumes nothing.
 use mathlib.Core.Path.{_≡_, refl, sym, ap, subst, _∙_}
 use mathlib.Core.List.{List, [], _∷_, _++_, map}
 use mathlib.Core.Bool.{Bool, true, false, cond, not, _||_, _&&_}

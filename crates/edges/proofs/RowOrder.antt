@@ -1,4 +1,4 @@
--- Precedence by the tree is precedence by places and branches. Assumes nothing.
+-- Precedence over trees is what the rules say: earlier in the row, and no block between. Assumes nothing.
 use mathlib.Core.Path.{_≡_, refl, sym, ap, subst, _∙_}
 use mathlib.Core.List.{List, [], _∷_}
 use mathlib.Core.Logic.{_⊎_, inl, inr, ⊎-elim}
@@ -7,11 +7,11 @@ use Rattle.model.specs.declared.Element.{Element}
 use Rattle.model.specs.declared.Element.the-variants.{Activity, AndSplit, Bar, AndJoin, XorSplit, XorJoin, LoopStart, LoopEnd}
 use Rattle.model.specs.Trees.{Seq, nil, cons, Item, activity, loop, and, xor, Branches, last, bar, spell, spell-item, spell-branches, flatten}
 use Rattle.model.specs.Relations.{In, In-item, In-branches, Across}
-use Rattle.edges.proofs.Orders.{Before, Before-item, Before-branches, Once, Once-item, Once-branches}
+use Rattle.edges.proofs.TreeOrder.{Before, Before-item, Before-branches, Once, Once-item, Once-branches}
 use Rattle.model.specs.Rows.{Bears, Among, Earlier, Split, Split-item, Split-branches, Precedes}
-use Rattle.edges.proofs.Sides.{before-in, before-in-item, before-in-branches, before-left, before-left-item, before-left-branches, across-in}
-use Rattle.edges.proofs.Loops.{across-left}
-use Rattle.edges.proofs.Uniques.{among, among-item, among-branches, found, found-item, found-branches}
+use Rattle.edges.proofs.NodeRelations.{before-in, before-in-item, before-in-branches, before-left, before-left-item, before-left-branches, across-in}
+use Rattle.edges.proofs.SharedLoops.{across-left}
+use Rattle.edges.proofs.RowIds.{among, among-item, among-branches, found, found-item, found-branches}
 
 module _ (u v : ℕ) where
   mutual

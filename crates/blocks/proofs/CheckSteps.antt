@@ -1,4 +1,4 @@
--- One element of a row, and what `fault` makes of it. Assumes nothing.
+-- The check goes one element further. Assumes nothing.
 use mathlib.Core.Path.{_≡_, refl, sym, ap, subst, _∙_}
 use mathlib.Core.List.{List, [], _∷_}
 use Prim.Native.Nat.{ℕ, _+_, _<_, _≤_}

@@ -1,4 +1,4 @@
--- The sets of `connected` are those of the paths. Assumes nothing.
+-- The sets kept while edges are checked are those of the paths, so the check answers as the rules do. Assumes nothing.
 use mathlib.Core.Path.{_≡_, refl, sym, ap, subst, _∙_}
 use mathlib.Core.List.{List, [], _∷_, _++_, map}
 use mathlib.Core.Bool.{Bool, true, false, cond, not, _||_, _&&_}
@@ -20,7 +20,7 @@ use Rattle.edges.specs.Edges.{within, same, listed, joined, proper, grown, gai
 use Rattle.edges.specs.Verdicts.{Low-edges}
 use Rattle.model.specs.Paths.{Leads, Listed, Path, by-order, by-edge, then-order, then-edge, Proper, Answer, Acyclic}
 use Rattle.ids.proofs.Laws.{has-union, has-empty, has-only}
-use Rattle.edges.proofs.Reaches.{Through, path-through, through-path, stays-acyclic}
+use Rattle.edges.proofs.PathsByEdges.{Through, path-through, through-path, stays-acyclic}
 
 getD-map-all : (f : IdSet → IdSet) → f empty ≡ empty → (xs : List IdSet) (i : ℕ) → getD (map f xs) i empty ≡ f (getD xs i empty)
 getD-map-all f e [] i = sym e

@@ -1,4 +1,4 @@
--- What the sets of a gap mean. Assumes nothing.
+-- Who is in the sets that the pass keeps at a gap. Assumes nothing.
 use mathlib.Core.Path.{_≡_, refl, sym, ap, subst, _∙_}
 use mathlib.Core.Bool.{Bool, true, false, cond, _||_, _&&_}
 use mathlib.Core.Logic.{_⊎_, inl, inr, ⊎-elim}
@@ -13,7 +13,7 @@ use Rattle.edges.specs.declared.places.Spot.{Spot}
 use Rattle.edges.specs.Places.{past-node, past-activity, enter, enter-loop, turn, leave, leave-loop}
 use Rattle.model.specs.Relations.{In, In-item, In-branches, Level, Level-item, Level-branches}
 use Rattle.ids.proofs.Laws as laws
-use Rattle.edges.proofs.Spots.{after, after-item, after-branches}
+use Rattle.edges.proofs.TreeGaps.{after, after-item, after-branches}
 
 abbrev pub Has : IdSet → (ℕ → Type 0) → Type 0
 Has a P = (u : ℕ) → Decides (has a u) (P u)

@@ -1,4 +1,4 @@
--- `fault` passes exactly the rows of trees. Assumes nothing.
+-- The check passes exactly the rows of trees. Assumes nothing.
 use mathlib.Core.Path.{_≡_, refl, sym, ap, subst, _∙_}
 use mathlib.Core.List.{List, [], _∷_}
 use mathlib.Core.Bool.{Bool, true, false, cond}

@@ -1,4 +1,4 @@
--- One element more of `noted`. Assumes nothing.
+-- The pass goes one element further. Assumes nothing.
 use mathlib.Core.Path.{_≡_, refl, sym, ap, _∙_}
 use mathlib.Core.List.{List, [], _∷_}
 use mathlib.Core.Bool.{Bool}

@@ -1,4 +1,4 @@
--- The place of a fault is the first at which a row goes wrong. Assumes nothing.
+-- The place of a fault is the first that nothing mends. Assumes nothing.
 use mathlib.Core.Path.{_≡_, refl, sym, ap, subst, _∙_}
 use mathlib.Core.List.{List, [], _∷_, _++_}
 use mathlib.Core.Bool.{Bool, true, false, cond}
@@ -16,7 +16,7 @@ use Rattle.blocks.specs.declared.Frame.{Frame}
 use Rattle.blocks.specs.declared.Frame.the-variants.{And, Xor, Loop}
 use Rattle.blocks.specs.Blocks.{fault, opens, else-at, at-end, verdict}
 use Rattle.model.specs.Trees.{Nested, Extends, First, Tells}
-use Rattle.blocks.proofs.Parses.{tells-ok, tree-clean}
+use Rattle.blocks.proofs.RowsOfTrees.{tells-ok, tree-clean}
 
 abbrev Clean : List Frame → List Element → Type 0
 Clean s xs = (p : ℕ) → fault s p xs ≡ None

@@ -1,0 +1,3 @@
+// Examples and boundaries of the checks of a schema.
+#[cfg(test)]
+mod tests;
