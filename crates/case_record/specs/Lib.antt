@@ -1,0 +1,4 @@
+pub mod Entries
+pub mod CaseRecords
+pub mod Readings
+pub mod Laws
