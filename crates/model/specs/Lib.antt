@@ -4,3 +4,6 @@ pub mod Trees
 pub mod Rows
 pub mod Relations
 pub mod Paths
+pub mod Signals
+pub mod States
+pub mod Entries

@@ -1,6 +1,6 @@
 // Why something was refused, and how that is told.
 ghost use mathlib.Core.Path.{_≡_};
-ghost use Rattle.model.specs.Refusals.{schema-reason};
+ghost use Rattle.model.specs.Refusals.{schema-reason, case-reason};
 use std::fmt;
 
 // Why a schema line was refused: the first of these that applies, in this order.
@@ -16,6 +16,26 @@ pub enum SchemaRefusal {
     Block { place: usize },
     // a sync edge breaks the edge rule or closes a cycle
     Edge { place: usize, source: u8 },
+}
+
+// Why a step is refused.
+#[derive(Clone, Copy)]
+pub enum StepRefusal {
+    // the entry is none, or there is no node of its kind with the id, or no such branch
+    Node,
+    // the node is not in the state that the step needs
+    State,
+}
+
+// Why a case was refused: the line, or a step of it. A step that is no entry of a record has no place.
+#[derive(Clone, Copy)]
+pub enum CaseRefusal {
+    Line,
+    Step {
+        place: Option<usize>,
+        id: u8,
+        refusal: StepRefusal,
+    },
 }
 
 // A refusal as it is told: its number, the layer of checks that gave it, the place in what was checked and
@@ -62,6 +82,30 @@ impl SchemaRefusal {
                 id: Some(source),
                 number: 14,
                 layer: 2,
+            },
+        }
+    }
+}
+
+impl CaseRefusal {
+    pub fn reason(self) -> Reason
+        ensures { λ r. ⌜ r ≡ case-reason self ⌝ }
+    {
+        match self {
+            CaseRefusal::Line => Reason {
+                place: None,
+                id: None,
+                number: 1,
+                layer: 5,
+            },
+            CaseRefusal::Step { place, id, refusal } => Reason {
+                place,
+                id: Some(id),
+                number: match refusal {
+                    StepRefusal::Node => 30,
+                    StepRefusal::State => 31,
+                },
+                layer: 6,
             },
         }
     }

@@ -192,3 +192,6 @@ bears-low x e u b = go (node-id x) e (bears-to x u b)
     go : (o : Option ℕ) → low-id o ≡ true → Id-is o u → u < 64
     go None e h = elim h [ ]
     go (Some i) e h = subst (λ k. k < 64) (sym h) (ltb-true i 64 e)
+
+pub decides-bears : (x : Element) (u : ℕ) → Decides (is-id (node-id x) u) (Bears x u)
+decides-bears x u = let d = decides-id (node-id x) u in (λ e. bears-from x u (d .0 e), λ h. d .1 (bears-to x u h))

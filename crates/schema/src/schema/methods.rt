@@ -1,5 +1,7 @@
 // What a schema tells.
 ghost use mathlib.Core.Path.{_≡_};
+ghost use Prim.Native.Nat.{_≤_};
+ghost use lib.ListN.{length};
 ghost use Rattle.std.specs.Orderings.{Decides};
 ghost use Rattle.model.specs.Trees.{Seq, flatten};
 ghost use Rattle.model.specs.Rows.{Precedes};
@@ -22,7 +24,8 @@ impl Schema {
     }
 
     pub fn row(&self) -> &[Element]
-        ensures { λ r. ⌜ now r ≡ parts (now (self .entry)) .row ⌝ }
+        ensures value { λ r. ⌜ now r ≡ parts (now (self .entry)) .row ⌝ }
+        ensures few { λ r. ⌜ length (now r) ≤ 128 ⌝ }
     {
         self.row.as_slice()
     }

@@ -1,0 +1,4 @@
+pub mod TreeSignals
+pub mod GapSteps
+pub mod Owns
+pub mod Frees

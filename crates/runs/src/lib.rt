@@ -1,0 +1,3 @@
+// Steps of a case, and the run of a history.
+pub mod histories;
+pub mod steps;
