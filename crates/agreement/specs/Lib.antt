@@ -1,0 +1,3 @@
+pub mod Laws
+pub mod Growth
+pub mod FalseGaps

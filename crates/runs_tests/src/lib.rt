@@ -1,0 +1,3 @@
+// Worked examples of runs and markings.
+#[cfg(test)]
+mod tests;
