@@ -1,5 +1,5 @@
 -- A sequence ends false exactly if it begins false. Assumes nothing.
-use Rattle.std.proofs.Common.{◌≡◌, ℕ, ◌+◌, Bool, true, false, cond, eqb, List, Some, Option, sym, refl, ap, ◌∙◌, arith}
+use Rattle.std.proofs.Common.{◌≡◌, ℕ, ◌+◌, Bool, true, false, cond, List, Some, Option, refl, ap, ◌∙◌, arith}
 use Rattle.model.specs.declared.Fact.{Fact}
 use Rattle.model.specs.declared.Signal.{Signal}
 use Rattle.model.specs.declared.Signal.TheVariants.{True, False, None}

@@ -1,5 +1,5 @@
 -- A run is no longer than its facts can rise. Assumes nothing.
-use Rattle.std.proofs.Common.{◌≡◌, ℕ, zero, suc, ◌+◌, ◌*◌, ◌<◌, ◌≤◌, List, [], ◌∷◌, length, get_or, set, sym, refl, ap, ◌∙◌, subst, arith, length-set}
+use Rattle.std.proofs.Common.{◌≡◌, ℕ, zero, suc, ◌+◌, ◌*◌, ◌<◌, ◌≤◌, List, [], ◌∷◌, length, get_or, set, sym, ◌∙◌, subst, arith, length-set}
 use Rattle.model.specs.declared.Entry.{Entry}
 use Rattle.model.specs.declared.Fact.{Fact}
 use Rattle.model.specs.declared.Fact.TheVariants.{Nothing, Begun, Ended, Decided, Left}
@@ -7,7 +7,7 @@ use Rattle.model.specs.Entries.{entry_id, fact_set}
 use Rattle.schema.specs.Checks.{SchemaParts}
 use Rattle.runs.specs.Steps.{Runs, ends, steps}
 use Rattle.agreement.specs.Laws.{Checked}
-use Rattle.agreement.proofs.Progress.{rank, rank_needed, raised, step_of}
+use Rattle.agreement.proofs.Progress.{rank, raised, step_of}
 
 abbrev total : List Fact → ℕ
 total [] = 0

@@ -1,10 +1,9 @@
 -- Each step raises the rank of its node's fact. Assumes nothing.
-use Rattle.std.proofs.Common.{◌≡◌, ℕ, zero, suc, ◌+◌, ◌<◌, ◌≤◌, Bool, true, false, cond, eqb, ◌⊎◌, List, [], ◌∷◌, map, length, get_or, set, replicate, Option, sym, refl, ap, ◌∙◌, subst, inl, inr, ⊎_elim, arith, length-set}
+use Rattle.std.proofs.Common.{◌≡◌, ℕ, ◌+◌, ◌<◌, ◌≤◌, Bool, true, false, cond, List, [], ◌∷◌, length, get_or, set, Option, sym, refl, ap, ◌∙◌, subst, inl, inr, ⊎_elim, arith, length-set}
 use Rattle.std.specs.declared.option.Option.TheVariants as option
-use Rattle.std.proofs.lemmas.List.{get_or-set_same, get_or-set_other, length-replicate}
+use Rattle.std.proofs.lemmas.List.{get_or-set_same, get_or-set_other}
 use Rattle.std.proofs.lemmas.Bool.{cases_eq}
 use Rattle.model.specs.declared.Element.{Element}
-use Rattle.model.specs.declared.Edge.{Edge}
 use Rattle.model.specs.declared.Entry.{Entry}
 use Rattle.model.specs.declared.Entry.TheVariants.{Start, End, Choose, Leave}
 use Rattle.model.specs.declared.Fact.{Fact}
@@ -12,10 +11,10 @@ use Rattle.model.specs.declared.Fact.TheVariants.{Nothing, Begun, Ended, Decided
 use Rattle.model.specs.declared.Signal.{Signal}
 use Rattle.model.specs.declared.Signal.TheVariants.{True, False, None}
 use Rattle.model.specs.declared.State.{State}
-use Rattle.model.specs.declared.State.TheVariants.{NotActivated, Activated, Running, Completed, Skipped}
+use Rattle.model.specs.declared.State.TheVariants.{Activated, Running}
 use Rattle.model.specs.Elements.{node_id}
 use Rattle.model.specs.Entries.{entry_id, entry_kind, needed, fact_set}
-use Rattle.model.specs.Rows.{Bears, Among, Unique, Low}
+use Rattle.model.specs.Rows.{Among}
 use Rattle.model.specs.Signals.{fact_of}
 use Rattle.model.specs.States.{state_of, by_fact, waiting}
 use Rattle.schema.specs.Reading.{is_id}
@@ -23,9 +22,9 @@ use Rattle.schema.specs.Checks.{SchemaParts}
 use Rattle.schema.proofs.Checked.{checked_fine}
 use Rattle.schema.proofs.Wrongs.{decides_bears}
 use Rattle.marking.specs.Machine.{signals, start}
-use Rattle.marking.specs.States.{own, free, with_signal, state_in}
+use Rattle.marking.specs.States.{own, free, with_signal}
 use Rattle.runs.specs.Steps.{Allowed, Runs, ends, steps}
-use Rattle.agreement.specs.Laws.{Checked, no_facts, Occurs, EachOnce}
+use Rattle.agreement.specs.Laws.{Checked, Occurs, EachOnce}
 
 abbrev pub rank : Fact → ℕ
 rank Nothing = 0

@@ -1,4 +1,6 @@
 // Laws of runs, for all schemas that passed the checks. There is nothing to run: the contracts are the laws.
+#![tactic(auto)]
+
 pub mod false_gaps;
 pub mod growth;
 

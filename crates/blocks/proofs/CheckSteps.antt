@@ -1,12 +1,12 @@
 -- The check goes one element further. Assumes nothing.
-use Rattle.std.proofs.Common.{◌≡◌, ℕ, ◌+◌, ◌<◌, ◌≤◌, List, [], ◌∷◌, length, get_or, drop, Some, None, Option, sym, refl, ap, ◌∙◌, subst}
+use Rattle.std.proofs.Common.{◌≡◌, ℕ, ◌+◌, ◌<◌, ◌≤◌, List, [], ◌∷◌, length, get_or, drop, Some, None, sym, ap, ◌∙◌, subst}
 use Rattle.std.proofs.lemmas.List.{drop_all, drop_more, at_drop_all}
 use Rattle.model.specs.declared.Element.{Element}
 use Rattle.blocks.specs.declared.Frame.{Frame}
 use Rattle.blocks.specs.declared.Start.{Start}
 use Rattle.blocks.specs.declared.Start.TheVariants.{Block, Nothing}
 use Rattle.blocks.specs.declared.Next.{Next}
-use Rattle.blocks.specs.Blocks.{fault, starts, started, closes, moved, meets, opens, else_at, Ends}
+use Rattle.blocks.specs.Blocks.{fault, starts, started, moved, meets, else_at, Ends}
 
 module _ (xs : List Element) (p : ℕ) where
   -- past the row's end

@@ -1,11 +1,11 @@
 -- The place of a fault is the first that nothing mends. Assumes nothing.
-use Rattle.std.proofs.Common.{◌≡◌, ℕ, zero, suc, ◌+◌, ◌<◌, ◌≤◌, Bool, true, false, cond, ltb, List, [], ◌∷◌, ◌++◌, length, take, Some, None, Option, Result, sym, refl, ap, ◌∙◌, subst, arith, ltb-false, lt-ltb}
+use Rattle.std.proofs.Common.{◌≡◌, ℕ, suc, ◌+◌, ◌<◌, ◌≤◌, Bool, true, false, cond, ltb, List, [], ◌∷◌, ◌++◌, length, take, Some, None, Option, Result, sym, refl, ap, ◌∙◌, subst, arith, ltb-false, lt-ltb}
 use Rattle.model.specs.declared.Element.{Element}
-use Rattle.model.specs.declared.Element.TheVariants.{Activity, AndSplit, Bar, AndJoin, XorSplit, XorJoin, LoopStart, LoopEnd}
+use Rattle.model.specs.declared.Element.TheVariants.{Bar, AndJoin, XorJoin, LoopEnd}
 use Rattle.blocks.specs.declared.Frame.{Frame}
 use Rattle.blocks.specs.declared.Frame.TheVariants.{And, Xor, Loop}
 use Rattle.blocks.specs.Blocks.{fault, opens, else_at, at_end, verdict}
-use Rattle.model.specs.Trees.{Nested, Extends, First, Tells}
+use Rattle.model.specs.Trees.{First, Tells}
 use Rattle.blocks.proofs.RowsOfTrees.{tells_ok, tree_clean}
 
 abbrev Clean : List Frame → List Element → Type 0

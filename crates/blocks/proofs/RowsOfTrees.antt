@@ -7,7 +7,7 @@ use Rattle.blocks.specs.declared.Frame.TheVariants.{And, Xor, Loop}
 use Rattle.blocks.specs.declared.Next.{Next}
 use Rattle.blocks.specs.declared.Next.TheVariants.{Branch, Closed, Refused}
 use Rattle.blocks.specs.Blocks.{fault, else_at, moved}
-use Rattle.model.specs.Trees.{Seq, nil, cons, Item, activity, loop, and, xor, Branches, last, bar, spell, spell_item, spell_branches, flatten, count, Width, Wide, WideItem, WideBranches, Nested}
+use Rattle.model.specs.Trees.{Seq, nil, cons, Item, activity, loop, and, xor, Branches, last, bar, spell, spell_item, spell_branches, count, Width, Wide, WideItem, WideBranches, Nested}
 
 -- What is left of a row in which these blocks are open: the rest of the innermost branch and block,
 -- the element that closes it, and what is left around it.

@@ -1,4 +1,6 @@
 // Whether the blocks of a row nest, and where they first do not.
+#![tactic(auto)]
+
 ghost use Rattle.std.specs.Prelude.{◌≡◌, ℕ, ◌+◌, ◌<◌, ◌≤◌, List, [], length};
 ghost use Rattle.model.specs.Trees.{Tells};
 ghost use Rattle.blocks.specs.Blocks.{fault, verdict, starts, meets, Sequence, Item};

@@ -1,4 +1,6 @@
 // Lists that can grow to a limit and no further.
+#![tactic(auto)]
+
 ghost use Rattle.std.specs.Prelude.{◌≤◌, vec_len, vec_capacity};
 
 pub mod methods;

@@ -1,2 +1,4 @@
 // Cases that run.
+#![tactic(auto)]
+
 pub mod case;

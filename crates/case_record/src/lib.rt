@@ -1,4 +1,6 @@
 // Case records and the entries that they list.
+#![tactic(auto)]
+
 mod cases;
 mod laws;
 #[cfg(test)]

@@ -1,11 +1,11 @@
 -- Who is in the sets that the pass keeps at a gap. Assumes nothing.
-use Rattle.std.proofs.Common.{◌≡◌, ℕ, ◌<◌, Bool, true, false, cond, ◌&&◌, ◌||◌, ◌⊎◌, Decides, sym, refl, ap, ◌∙◌, subst, inl, inr, ⊎_elim, arith}
+use Rattle.std.proofs.Common.{◌≡◌, ℕ, ◌<◌, Bool, true, false, cond, ◌⊎◌, Decides, refl, inl, inr, arith}
 use Rattle.ids.specs.declared.IdSet.{IdSet}
 use Rattle.ids.specs.Sets.{has, only, empty, union, intersection}
 use Rattle.std.proofs.lemmas.Bool.Decides.{Decides-eqb, Decides-and, Decides-or, Decides-at, Decides-like}
 use Rattle.model.specs.Trees.{Seq, nil, cons, Item, activity, loop, and, xor, Branches, last, bar}
 use Rattle.edges.specs.declared.places.Spot.{Spot}
-use Rattle.edges.specs.Places.{past_node, past_activity, enter, enter_loop, turn, leave, leave_loop}
+use Rattle.edges.specs.Places.{past_node, enter, enter_loop, turn}
 use Rattle.model.specs.Relations.{In, InItem, InBranches, Level, LevelItem, LevelBranches}
 use Rattle.ids.proofs.Laws as laws
 use Rattle.edges.proofs.TreeGaps.{after, after_item, after_branches}

@@ -1,15 +1,14 @@
 -- What the sets at the gap before a node say about that node. Assumes nothing.
-use Rattle.std.proofs.Common.{◌≡◌, ℕ, ◌<◌, Bool, true, false, cond, ◌&&◌, ◌||◌, ◌⊎◌, Decides, sym, refl, ap, ◌∙◌, subst, inl, inr, ⊎_elim, arith}
-use Rattle.ids.specs.declared.IdSet.{IdSet}
-use Rattle.ids.specs.Sets.{has, only, empty, union, intersection}
+use Rattle.std.proofs.Common.{◌≡◌, ℕ, Bool, true, false, ◌⊎◌, Decides, refl, subst, inl, inr, arith}
+use Rattle.ids.specs.Sets.{has, union}
 use Rattle.std.proofs.lemmas.Bool.Decides.{Decides-like}
 use Rattle.model.specs.Trees.{Seq, nil, cons, Item, activity, loop, and, xor, Branches, last, bar}
 use Rattle.edges.specs.declared.places.Spot.{Spot}
-use Rattle.edges.specs.Places.{past_node, past_activity, enter, enter_loop, turn, leave, leave_loop}
+use Rattle.edges.specs.Places.{past_node, enter, enter_loop, turn}
 use Rattle.model.specs.Relations.{In, InItem, InBranches, Beside, BesideItem, BesideBranches, Across, Level, LevelItem, LevelBranches}
 use Rattle.edges.proofs.TreeOrder.{Before, BeforeItem, BeforeBranches, Once, OnceItem, OnceBranches}
-use Rattle.edges.proofs.TreeGaps.{after, after_item, after_branches, at, at_item, at_branches, acts, acts_item, acts_branches}
-use Rattle.edges.proofs.GapMeanings.{Has, has_union, Means, ◌∪◌, None, Turned, Small, enters, enters_loop, passes_node, turns, means, means_item}
+use Rattle.edges.proofs.TreeGaps.{after, after_item, at, at_item, at_branches, acts, acts_item, acts_branches}
+use Rattle.edges.proofs.GapMeanings.{has_union, Means, ◌∪◌, None, Turned, Small, enters, enters_loop, passes_node, turns, means, means_item}
 use Rattle.edges.proofs.NodeRelations.{before_in, before_in_item, before_in_branches, beside_in, beside_in_item, beside_in_branches, across_in, Mate, MateItem, MateBranches, level_in, level_in_item, level_in_branches, mate_in, mate_in_item, mate_in_branches}
 
 never : {X : Type 0} → false ≡ true → X

@@ -1,26 +1,25 @@
 -- The sets of a row are the relations of its tree: the laws of the public contracts. Assumes nothing.
-use Rattle.std.proofs.Common.{◌≡◌, ℕ, ◌<◌, ◌≤◌, Bool, true, false, cond, ◌&&◌, ◌||◌, ◌⊎◌, List, [], ◌∷◌, length, get_or, replicate, Ok, Err, Decides, Result, sym, refl, ap, ◌∙◌, subst, inl, inr, ⊎_elim, arith}
+use Rattle.std.proofs.Common.{◌≡◌, ℕ, ◌<◌, ◌≤◌, Bool, true, false, ◌⊎◌, List, [], length, get_or, Ok, Err, Decides, Result, sym, refl, ap, ◌∙◌, subst, inl, inr, ⊎_elim, arith}
 use Rattle.ids.specs.declared.IdSet.{IdSet}
-use Rattle.ids.specs.Sets.{has, empty, union, intersection}
+use Rattle.ids.specs.Sets.{has, empty}
 use Rattle.std.proofs.lemmas.List.{get_or-replicate, get_or_past, length-replicate}
 use Rattle.std.proofs.lemmas.Bool.{cases_lt}
 use Rattle.std.proofs.lemmas.Bool.Decides.{Decides-at, Decides-like, Decides-or}
 use Rattle.model.specs.declared.Element.{Element}
 use Rattle.model.specs.declared.Edge.{Edge}
 use Rattle.model.specs.Trees.{Seq, flatten}
-use Rattle.edges.specs.declared.places.Spot.{Spot}
 use Rattle.edges.specs.Edges.{within, joined, judged, closed, proper}
 use Rattle.edges.specs.Places.{nowhere, preceding, joinable, no_sets, befores, partners, OrderOf}
-use Rattle.model.specs.Relations.{In, Beside, Level, SameLoop, Joins}
+use Rattle.model.specs.Relations.{In, Beside, Level, Joins}
 use Rattle.edges.proofs.TreeOrder.{Before, Once, Small}
-use Rattle.model.specs.Paths.{Path, by_order, by_edge, then_order, then_edge, Answer, Acyclic, Proper, Ranked}
+use Rattle.model.specs.Paths.{Answer, Acyclic, Proper, Ranked}
 use Rattle.edges.specs.declared.order.Order.{Order}
 use Rattle.edges.specs.Verdicts.{edges_checked, edges_verdict, Tells, Leaves, edge_admitted, edge_verdict, LowEdges, Judges, Ordered}
 use Rattle.ids.proofs.Laws.{has_empty}
 use Rattle.edges.proofs.ReachableSets.{Follows, follows_none, follows_all, alone, decides_proper, answers, acyclic}
-use Rattle.edges.proofs.TreeGaps.{at, acts, write, on_tree, long, other, value}
-use Rattle.edges.proofs.GapMeanings.{Has, has_both, has_nothing, Means, None}
-use Rattle.edges.proofs.NodeRelations.{Mate, before_in, before_left, beside_in, mate_in, transitive, irreflexive, beside_apart}
+use Rattle.edges.proofs.TreeGaps.{at, acts, on_tree, long, other, value}
+use Rattle.edges.proofs.GapMeanings.{has_both, has_nothing, Means, None}
+use Rattle.edges.proofs.NodeRelations.{Mate, before_in, before_left, beside_in, transitive, irreflexive, beside_apart}
 use Rattle.edges.proofs.NodeGaps.{sees, sides, mates}
 use Rattle.model.specs.Rows.{Unique, Low, Precedes}
 use Rattle.edges.proofs.RowIds.{once_tree, small_tree}

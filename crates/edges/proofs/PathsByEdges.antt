@@ -1,7 +1,7 @@
 -- Which paths one edge more opens. Assumes nothing.
-use Rattle.std.proofs.Common.{◌≡◌, ℕ, ◌+◌, ◌<◌, ◌≤◌, Bool, true, false, cond, not, ◌&&◌, ◌||◌, ◌⊎◌, List, [], ◌∷◌, ◌++◌, map, sym, refl, ap, ◌∙◌, subst, inl, inr, ⊎_elim, arith}
+use Rattle.std.proofs.Common.{◌≡◌, ℕ, ◌⊎◌, List, [], ◌∷◌, ◌++◌, sym, refl, ◌∙◌, subst, inl, inr, ⊎_elim}
 use Rattle.model.specs.declared.Edge.{Edge}
-use Rattle.model.specs.Paths.{Leads, Listed, Path, by_order, by_edge, then_order, then_edge, Proper, Answer, Acyclic}
+use Rattle.model.specs.Paths.{Leads, Listed, Path, by_order, by_edge, then_order, then_edge, Acyclic}
 
 listed_last : (u v : ℕ) (es : List Edge) (e : Edge) → Listed u v (es ++ e ∷ []) → Listed u v es ⊎ Leads u v e
 listed_last u v [] e (inl l) = inr l

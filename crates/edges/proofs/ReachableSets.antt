@@ -1,5 +1,5 @@
 -- The sets kept while edges are checked are those of the paths, so the check answers as the rules do. Assumes nothing.
-use Rattle.std.proofs.Common.{◌≡◌, ℕ, zero, suc, ◌+◌, ◌<◌, ◌≤◌, Bool, true, false, cond, not, ◌&&◌, ◌||◌, eqb, ◌⊎◌, List, [], ◌∷◌, ◌++◌, map, length, get_or, set, Ok, Err, Decides, Result, sym, refl, ap, ◌∙◌, subst, inl, inr, ⊎_elim, arith, length-set}
+use Rattle.std.proofs.Common.{◌≡◌, ℕ, zero, suc, ◌+◌, ◌<◌, Bool, true, false, cond, ◌&&◌, ◌||◌, eqb, List, [], ◌∷◌, ◌++◌, map, length, get_or, set, Ok, Err, Decides, sym, refl, ap, ◌∙◌, subst, inl, inr, ⊎_elim, arith, length-set}
 use Rattle.ids.specs.declared.IdSet.{IdSet}
 use Rattle.ids.specs.Sets.{has, only, empty, union}
 use Rattle.std.proofs.lemmas.List.{get_or-set_same, get_or-set_other, length-map, append-nil, append_assoc}
@@ -10,7 +10,7 @@ use Rattle.edges.specs.Edges.{within, same, listed, joined, proper, grown, gain_
 use Rattle.edges.specs.Verdicts.{LowEdges}
 use Rattle.model.specs.Paths.{Leads, Listed, Path, by_order, by_edge, then_order, then_edge, Proper, Answer, Acyclic}
 use Rattle.ids.proofs.Laws.{has_union, has_empty, has_only}
-use Rattle.edges.proofs.PathsByEdges.{Through, path_through, through_path, stays_acyclic}
+use Rattle.edges.proofs.PathsByEdges.{path_through, through_path, stays_acyclic}
 
 getD_map_all : (f : IdSet → IdSet) → f empty ≡ empty → (xs : List IdSet) (i : ℕ) → get_or (map f xs) i empty ≡ f (get_or xs i empty)
 getD_map_all f e [] i = sym e

@@ -1,13 +1,11 @@
 -- A row with distinct, low ids is the row of a tree with such ids. Assumes nothing.
-use Rattle.std.proofs.Common.{◌≡◌, ℕ, ◌<◌, ◌⊎◌, List, [], ◌∷◌, sym, refl, ap, ◌∙◌, subst, inl, inr, ⊎_elim}
+use Rattle.std.proofs.Common.{◌≡◌, ℕ, ◌⊎◌, List, [], ◌∷◌, refl, inl, inr, ⊎_elim}
 use Rattle.model.specs.declared.Element.{Element}
-use Rattle.model.specs.declared.Element.TheVariants.{Activity, AndSplit, Bar, AndJoin, XorSplit, XorJoin, LoopStart, LoopEnd}
+use Rattle.model.specs.declared.Element.TheVariants.{Bar, AndJoin, XorJoin, LoopEnd}
 use Rattle.model.specs.Trees.{Seq, nil, cons, Item, activity, loop, and, xor, Branches, last, bar, spell, spell_item, spell_branches, flatten}
-use Rattle.model.specs.Relations.{In, InItem, InBranches, Across}
-use Rattle.edges.proofs.TreeOrder.{Before, BeforeItem, BeforeBranches, Once, OnceItem, OnceBranches, Small}
-use Rattle.model.specs.Rows.{Bears, Among, Unique, Low, Earlier, Split, SplitItem, SplitBranches, Precedes}
-use Rattle.edges.proofs.NodeRelations.{before_in, before_in_item, before_in_branches, before_left, before_left_item, before_left_branches, across_in}
-use Rattle.edges.proofs.SharedLoops.{across_left}
+use Rattle.model.specs.Relations.{In, InItem, InBranches}
+use Rattle.edges.proofs.TreeOrder.{Once, OnceItem, OnceBranches, Small}
+use Rattle.model.specs.Rows.{Among, Unique, Low}
 
 module _ (u : ℕ) where
   mutual

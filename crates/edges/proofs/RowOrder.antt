@@ -1,14 +1,14 @@
 -- Precedence over trees is what the rules say: earlier in the row, and no block between. Assumes nothing.
-use Rattle.std.proofs.Common.{◌≡◌, ℕ, ◌<◌, ◌⊎◌, List, [], ◌∷◌, sym, refl, ap, ◌∙◌, subst, inl, inr, ⊎_elim}
+use Rattle.std.proofs.Common.{◌≡◌, ℕ, ◌⊎◌, List, [], ◌∷◌, subst, inl, inr, ⊎_elim}
 use Rattle.model.specs.declared.Element.{Element}
-use Rattle.model.specs.declared.Element.TheVariants.{Activity, AndSplit, Bar, AndJoin, XorSplit, XorJoin, LoopStart, LoopEnd}
-use Rattle.model.specs.Trees.{Seq, nil, cons, Item, activity, loop, and, xor, Branches, last, bar, spell, spell_item, spell_branches, flatten}
+use Rattle.model.specs.declared.Element.TheVariants.{Bar, AndJoin, XorJoin, LoopEnd}
+use Rattle.model.specs.Trees.{Seq, nil, cons, Item, activity, loop, and, xor, Branches, last, bar, spell, spell_item, spell_branches}
 use Rattle.model.specs.Relations.{In, InItem, InBranches, Across}
 use Rattle.edges.proofs.TreeOrder.{Before, BeforeItem, BeforeBranches, Once, OnceItem, OnceBranches}
-use Rattle.model.specs.Rows.{Bears, Among, Earlier, Split, SplitItem, SplitBranches, Precedes}
-use Rattle.edges.proofs.NodeRelations.{before_in, before_in_item, before_in_branches, before_left, before_left_item, before_left_branches, across_in}
+use Rattle.model.specs.Rows.{Among, Earlier, Split, SplitItem, SplitBranches, Precedes}
+use Rattle.edges.proofs.NodeRelations.{before_in, before_in_branches, before_left, before_left_item, before_left_branches, across_in}
 use Rattle.edges.proofs.SharedLoops.{across_left}
-use Rattle.edges.proofs.RowIds.{among, among_item, among_branches, found, found_item, found_branches}
+use Rattle.edges.proofs.RowIds.{among, among_branches, found, found_branches}
 
 module _ (u v : ℕ) where
   mutual

@@ -1,5 +1,5 @@
 -- Two activities beside each other share their innermost loop exactly if the pass kept the one for the other. Assumes nothing.
-use Rattle.std.proofs.Common.{◌≡◌, ℕ, ◌<◌, Bool, true, false, ◌⊎◌, sym, refl, ap, ◌∙◌, subst, inl, inr, ⊎_elim}
+use Rattle.std.proofs.Common.{◌≡◌, ℕ, true, ◌⊎◌, refl, subst, inl, inr}
 use Rattle.std.proofs.lemmas.Bool.{cases_eq}
 use Rattle.model.specs.Trees.{Seq, nil, cons, Item, activity, loop, and, xor, Branches, last, bar}
 use Rattle.model.specs.Relations.{In, InItem, InBranches, Beside, BesideItem, BesideBranches, Across, Level, LevelItem, LevelBranches, Looped, LoopedItem, LoopedBranches, SameLoop}

@@ -1,14 +1,14 @@
 -- What the pass keeps at the gaps of a row, computed over its tree. Assumes nothing.
-use Rattle.std.proofs.Common.{◌≡◌, ℕ, ◌+◌, ◌<◌, ◌≤◌, Bool, true, false, cond, ◌≢◌, ◌⊎◌, List, [], ◌∷◌, length, get_or, set, sym, refl, ap, ◌∙◌, subst, inl, inr, ⊎_elim, arith, length-set}
+use Rattle.std.proofs.Common.{◌≡◌, ℕ, ◌<◌, Bool, true, false, List, [], ◌∷◌, length, get_or, set, sym, refl, ◌∙◌, subst, inl, inr, length-set}
 use Rattle.ids.specs.declared.IdSet.{IdSet}
 use Rattle.ids.specs.Sets.{empty, union}
 use Rattle.std.proofs.lemmas.List.{get_or-set_same, get_or-set_other}
 use Rattle.model.specs.declared.Element.{Element}
-use Rattle.model.specs.declared.Element.TheVariants.{Activity, AndSplit, Bar, AndJoin, XorSplit, XorJoin, LoopStart, LoopEnd}
+use Rattle.model.specs.declared.Element.TheVariants.{Bar, AndJoin, XorJoin, LoopEnd}
 use Rattle.model.specs.Trees.{Seq, nil, cons, Item, activity, loop, and, xor, Branches, last, bar, spell, spell_item, spell_branches, flatten}
 use Rattle.edges.specs.declared.places.Spot.{Spot}
 use Rattle.edges.specs.declared.places.Opened.{Opened}
-use Rattle.edges.specs.Places.{past_node, past_activity, enter, enter_loop, turn, leave, leave_loop, opened, State, state, noted}
+use Rattle.edges.specs.Places.{past_node, past_activity, enter, enter_loop, turn, leave, leave_loop, opened, state, noted}
 use Rattle.model.specs.Relations.{In, InItem, InBranches}
 use Rattle.edges.proofs.TreeOrder.{Once, OnceItem, OnceBranches}
 

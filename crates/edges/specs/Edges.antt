@@ -1,7 +1,7 @@
 -- The first sync edge that breaks a rule, by sets of ids. Assumes nothing.
 --   partners    for each id the earlier activities that a sync edge may join it with
 --   back        for each id the nodes from which it is reached
-use Rattle.std.specs.Prelude.{ℕ, ◌+◌, Bool, true, false, cond, not, ◌&&◌, ◌||◌, List, [], ◌∷◌, ◌++◌, map, set, Ok, Err, Result, ◌==◌, slice_index_or, slice_set}
+use Rattle.std.specs.Prelude.{ℕ, ◌+◌, Bool, false, cond, not, ◌&&◌, ◌||◌, List, [], ◌∷◌, ◌++◌, map, Ok, Err, Result, ◌==◌, slice_index_or, slice_set}
 use Rattle.ids.specs.declared.IdSet.{IdSet}
 use Rattle.ids.specs.Sets.{has, only, empty, union}
 use Rattle.model.specs.declared.Edge.{Edge}

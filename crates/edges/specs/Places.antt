@@ -4,7 +4,7 @@
 --   befores xs      for each id the nodes that precede it
 --   partners xs     for each id the earlier activities that a sync edge may join it with
 -- `Ordered`, `Tells` and `Judges` (Verdicts) say what these mean for the row's tree.
-use Rattle.std.specs.Prelude.{◌≡◌, ℕ, Bool, true, false, cond, List, [], ◌∷◌, set, replicate, Some, None, Option, slice_set}
+use Rattle.std.specs.Prelude.{◌≡◌, ℕ, Bool, true, false, cond, List, [], ◌∷◌, replicate, Some, None, Option, slice_set}
 use Rattle.ids.specs.declared.IdSet.{IdSet}
 use Rattle.ids.specs.Sets.{only, empty, union, intersection}
 use Rattle.model.specs.declared.Element.{Element}

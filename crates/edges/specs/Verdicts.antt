@@ -5,7 +5,7 @@ use Rattle.model.specs.declared.Edge.{Edge}
 use Rattle.model.specs.Trees.{Seq, flatten}
 use Rattle.edges.specs.declared.order.Order.{Order}
 use Rattle.edges.specs.Places.{befores, partners}
-use Rattle.edges.specs.Edges.{judged, proper, closed, within}
+use Rattle.edges.specs.Edges.{judged, proper, closed}
 use Rattle.model.specs.Relations.{Joins}
 use Rattle.model.specs.Rows.{Unique, Low, Precedes}
 use Rattle.model.specs.Paths.{Answer, Acyclic, Proper, Ranked}

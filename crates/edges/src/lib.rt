@@ -1,4 +1,6 @@
 // How the nodes of a row stand to one another, and the rules for sync edges.
+#![tactic(auto)]
+
 ghost use Rattle.std.specs.Prelude.{◌≡◌, ℕ, ◌≤◌, List, [], map, length, take, set, slice_index_or};
 ghost use Rattle.ids.specs.Sets.{empty};
 ghost use Rattle.edges.specs.Edges.{same, listed, joined, grown, connected, proper, judged, closed, within};

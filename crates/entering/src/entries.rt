@@ -11,6 +11,7 @@ use case_record::{CaseRecord, RawEntry};
 use facts::Facts;
 use history::Store;
 use model::Entry;
+use lives::CallRefusal;
 use model::refusal::{CaseRefusal, StepRefusal};
 use runs::steps::step;
 use schema::schema::Schema;
@@ -22,8 +23,8 @@ pub fn enter<const COST: usize, S: Store<COST>>(
     store: &mut S,
     place: Option<usize>,
     entry: Entry,
-) -> Result<(), CaseRefusal>
-    ensures { Changed (entered (parts schema.now) place entry (held (facts_by_id facts.old) (view store.old))) (held (facts_by_id facts.old) (view store.old)) (held (facts_by_id facts.new) (view store.new)) result }
+) -> Result<(), CallRefusal>
+    ensures { Changed (entered (parts schema.now) place entry (held (facts_by_id facts.old) (S.view store.old))) (held (facts_by_id facts.old) (S.view store.old)) (held (facts_by_id facts.new) (S.view store.new)) result }
 {
     let id = entry.id();
     let mut next = *facts;
@@ -33,9 +34,9 @@ pub fn enter<const COST: usize, S: Store<COST>>(
                 *facts = next;
                 Ok(())
             }
-            Err(_) => Err(CaseRefusal::Store { place, id }),
+            Err(_) => Err(CallRefusal::Store { place, id }),
         },
-        Err(refusal) => Err(CaseRefusal::Step { place, id, refusal }),
+        Err(refusal) => Err(CallRefusal::Case(CaseRefusal::Step { place, id, refusal })),
     }
 }
 
@@ -46,16 +47,16 @@ pub fn take<const COST: usize, S: Store<COST>>(
     store: &mut S,
     place: usize,
     raw: RawEntry,
-) -> Result<(), CaseRefusal>
-    ensures { Changed (taken (parts schema.now) place raw (held (facts_by_id facts.old) (view store.old)) (entry_read raw.kind raw.id raw.branch)) (held (facts_by_id facts.old) (view store.old)) (held (facts_by_id facts.new) (view store.new)) result }
+) -> Result<(), CallRefusal>
+    ensures { Changed (taken (parts schema.now) place raw (held (facts_by_id facts.old) (S.view store.old)) (entry_read raw.kind raw.id raw.branch)) (held (facts_by_id facts.old) (S.view store.old)) (held (facts_by_id facts.new) (S.view store.new)) result }
 {
     match Entry::from_bytes(raw.kind, raw.id, raw.branch) {
         Some(entry) => enter(schema, facts, store, Some(place), entry),
-        None => Err(CaseRefusal::Step {
+        None => Err(CallRefusal::Case(CaseRefusal::Step {
             place: Some(place),
             id: raw.id,
             refusal: StepRefusal::Node,
-        }),
+        })),
     }
 }
 
@@ -65,9 +66,9 @@ pub fn take_all<const COST: usize, S: Store<COST>>(
     facts: &mut Facts,
     store: &mut S,
     history: CaseRecord<'_>,
-) -> Result<(), CaseRefusal>
-    ensures after { Reached (entries_taken (parts schema.now) 0 (entries_in history.entry.entries.now) (held (facts_by_id facts.old) (view store.old))) (held (facts_by_id facts.new) (view store.new)) result }
-    ensures capacity { (view store.new).capacity ≡ (view store.old).capacity }
+) -> Result<(), CallRefusal>
+    ensures after { Reached (entries_taken (parts schema.now) 0 (entries_in history.entry.entries.now) (held (facts_by_id facts.old) (S.view store.old))) (held (facts_by_id facts.new) (S.view store.new)) result }
+    ensures capacity { (S.view store.new).capacity ≡ (S.view store.old).capacity }
 {
     for place in 0..history.len() {
         let raw = match history.entry(place) {

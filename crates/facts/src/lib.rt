@@ -1,4 +1,6 @@
 // What has happened to each node of a case.
+#![tactic(auto)]
+
 ghost use Rattle.std.specs.Prelude.{◌≡◌, length};
 
 mod methods;

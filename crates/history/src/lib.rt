@@ -1,4 +1,6 @@
 // What a case's history is, and what keeps it.
+#![tactic(auto)]
+
 ghost use Rattle.std.specs.Prelude.{◌≡◌, ◌+◌, ◌≤◌, length};
 ghost use Rattle.std.specs.List.{slice_get};
 ghost use Rattle.history.specs.Entries.{is_of, last_place, before};
@@ -76,7 +78,7 @@ pub fn comes_before<const PURGE_COST: usize, S: Store<PURGE_COST>>(
     earlier: (EntryKind, u8),
     later: (EntryKind, u8),
 ) -> bool
-    ensures { result ≡ before (last_place earlier.0 earlier.1 (view store.now).list) (last_place later.0 later.1 (view store.now).list) }
+    ensures { result ≡ before (last_place earlier.0 earlier.1 (S.view store.now).list) (last_place later.0 later.1 (S.view store.now).list) }
 {
     match store.place(earlier.0, earlier.1) {
         Some(first) => match store.place(later.0, later.1) {

@@ -1,4 +1,6 @@
 // Sets of node ids.
+#![tactic(auto)]
+
 ghost use Rattle.std.specs.Prelude.{◌≡◌, ℕ, Bool, false, not, ◌&&◌, ◌||◌, ◌==◌, nat_lt};
 ghost use Rattle.ids.specs.Counts.{how_many};
 ghost use Rattle.ids.specs.Sets.{has, empty, only, union, intersection, difference};

@@ -1,4 +1,6 @@
 // Lines from a stream, of which no more is held than a line may have.
+#![tactic(auto)]
+
 ghost use Rattle.std.specs.Prelude.{◌≡◌, false, [], IfOk};
 ghost use Rattle.record.specs.Lines.{held, Short};
 ghost use Rattle.input.specs.Chunks.{filled, parted};

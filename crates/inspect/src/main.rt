@@ -1,4 +1,6 @@
 // Reads schema lines from standard input, and prints for each its outline or why it is refused.
+#![tactic(auto)]
+
 use input::next_line;
 use outline::Outline;
 use record::LineBuffer;

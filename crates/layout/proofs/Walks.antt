@@ -7,8 +7,8 @@ use Rattle.model.specs.declared.Element.TheVariants.{Activity, AndSplit, Bar, An
 use Rattle.model.specs.Trees.{Seq, nil, cons, Item, activity, loop, and, xor, Branches, last, bar, spell, spell_item, spell_branches, count}
 use Rattle.layout.specs.declared.Position.{Position}
 use Rattle.layout.specs.declared.pass.Move.TheVariants.{Stay, Turn}
-use Rattle.layout.specs.Pass.{state, Tables, tables, read, noted, written, position, outside, entered, entered_loop, turned, start}
-use Rattle.layout.specs.Gaps.{Begins, Closes, Rest, Inside, loop_from, Gap, block, gap_of, Stands, Ends}
+use Rattle.layout.specs.Pass.{state, Tables, tables, read, noted, written, position, outside, entered, entered_loop, turned}
+use Rattle.layout.specs.Gaps.{Begins, Closes, Rest, Inside, loop_from, Gap, gap_of, Stands, Ends}
 use Rattle.layout.proofs.Rests.{rest_next, rest_here, rest_long, rest_less}
 use Rattle.layout.proofs.Shapes.{spell_longer_branches, gap_item, gap_bar, gap_enter, gap_inside}
 

@@ -1,5 +1,7 @@
 // Where the elements of a row stand: the places of its nodes, the block around each element, and where
 // blocks end. Computed once, in one pass, and with no memory taken.
+#![tactic(auto)]
+
 ghost use Rattle.std.specs.Prelude.{◌≡◌, ◌≤◌, length};
 
 pub mod methods;

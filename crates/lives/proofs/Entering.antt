@@ -5,7 +5,7 @@ use Rattle.std.proofs.lemmas.Bool.{eqb-false, ne_eqb}
 use Rattle.model.specs.declared.Entry.{Entry}
 use Rattle.model.specs.declared.Fact.{Fact}
 use Rattle.model.specs.declared.refusal.StepRefusal.{StepRefusal}
-use Rattle.model.specs.declared.refusal.CaseRefusal.{CaseRefusal}
+use Rattle.lives.specs.declared.CallRefusal.{CallRefusal}
 use Rattle.model.specs.Entries.{entry_id, fact_set, entry_read}
 use Rattle.model.proofs.EntryBytes.{entry_is, is_entry}
 use Rattle.schema.specs.Checks.{SchemaParts}
@@ -17,7 +17,7 @@ use Rattle.history.specs.Stores.{StoreView, refusal, added}
 use Rattle.lives.specs.Calls.{Held, held, by_store, by_schema, entered, taken, and_then, entries_taken}
 use Rattle.lives.specs.Lives.{with_entry, entries_read}
 
-err_ok : {A : Type 0} {P : Type 0} (r : CaseRefusal) (a : A) → ◌≡◌ {A = Result A CaseRefusal} (Err r) (Ok a) → P
+err_ok : {A : Type 0} {P : Type 0} (r : CallRefusal) (a : A) → ◌≡◌ {A = Result A CallRefusal} (Err r) (Ok a) → P
 err_ok r a e = absurd (let z : ◌≡◌ {A = ℕ} 0 1 = cc in omega arith)
 
 -- the store with one entry more
@@ -90,11 +90,11 @@ module _ (S : SchemaParts) where
   were_taken (r ∷ rs) p h k q =
       go (entry_read r.kind r.id r.branch) refl (taken S p r h (entry_read r.kind r.id r.branch)) refl (λ m. were_taken rs (p + 1) m k) q
     where
-      go : (o : Option Entry) → entry_read r.kind r.id r.branch ≡ o → (t : Result Held CaseRefusal) → taken S p r h (entry_read r.kind r.id r.branch) ≡ t
+      go : (o : Option Entry) → entry_read r.kind r.id r.branch ≡ o → (t : Result Held CallRefusal) → taken S p r h (entry_read r.kind r.id r.branch) ≡ t
           → ((m : Held) → entries_taken S (p + 1) rs m ≡ Ok k → Taken rs m k) → and_then t (entries_taken S (p + 1) rs) ≡ Ok k → Taken (r ∷ rs) h k
       go None i t j rec q = absurd (let e = sym (ap (taken S p r h) i) ∙ j in no t e q)
         where
-          no : (t : Result Held CaseRefusal) → taken S p r h None ≡ t → and_then t (entries_taken S (p + 1) rs) ≡ Ok k → ⊥
+          no : (t : Result Held CallRefusal) → taken S p r h None ≡ t → and_then t (entries_taken S (p + 1) rs) ≡ Ok k → ⊥
           no (Ok m) e q = err_ok _ m e
           no (Err x) e q = err_ok x k q
       go (Some e) i (Err x) j rec q = err_ok x k q
@@ -130,7 +130,7 @@ module _ (S : SchemaParts) (h : Held) where
   taken_capacity p r None k q = err_ok _ k q
   taken_capacity p r (Some e) k q = (was_entered S (Some p) e h k q).capacity
 
-  pub taken_at : (rs : List RawEntry) (p : ℕ) (r d : RawEntry) → p < length rs → r ≡ get_or rs p d → (o : Result Held CaseRefusal)
+  pub taken_at : (rs : List RawEntry) (p : ℕ) (r d : RawEntry) → p < length rs → r ≡ get_or rs p d → (o : Result Held CallRefusal)
       → taken S p r h (entry_read r.kind r.id r.branch) ≡ o → entries_taken S p (drop p rs) h ≡ and_then o (entries_taken S (p + 1) (drop (p + 1) rs))
   taken_at rs p r d less is o q =
       at_drop_more (λ qs. entries_taken S p qs h) rs p d less

@@ -5,9 +5,9 @@ use Rattle.model.specs.declared.Entry.{Entry}
 use Rattle.model.specs.declared.Entry.TheVariants.{Leave}
 use Rattle.model.specs.declared.Fact.{Fact}
 use Rattle.model.specs.declared.refusal.StepRefusal.{StepRefusal}
-use Rattle.model.specs.declared.refusal.CaseRefusal.{CaseRefusal}
+use Rattle.lives.specs.declared.CallRefusal.{CallRefusal}
 use Rattle.facts.specs.Facts.{reset}
-use Rattle.schema.specs.Checks.{SchemaParts, Checked}
+use Rattle.schema.specs.Checks.{SchemaParts, Admitted}
 use Rattle.case_record.specs.CaseRecords.{RawCase, case_in}
 use Rattle.case_record.proofs.Writings.{reading_inverts_writing}
 use Rattle.runs.specs.Steps.{Allowed, Runs, ends, steps, step_in}
@@ -35,16 +35,16 @@ one_run : {S : SchemaParts} {fs gs ms : List Fact} (es : List Entry) → Runs S 
 one_run {S} {fs} {gs} {ms} es r q = after_entries S fs gs es r ∙ sym (after_entries S fs ms es q)
 
 pub record Kept (H : List Entry) (v : CaseView) : Type 0 where
-  pub checked : Checked v.progress.schema
+  pub checked : Admitted v.progress.schema
   pub runs : HistoryRuns H v
   pub list : v.store.list ≡ H
   pub offered : v.offered ≡ offers v.progress.schema v.progress.facts
 
-abbrev opening : (n : ℕ) (v : CaseView) → Checked v.progress.schema → Kept [] (opened n v)
+abbrev opening : (n : ℕ) (v : CaseView) → Admitted v.progress.schema → Kept [] (opened n v)
 opening n v k = record { checked = k; runs = ends; list = refl; offered = refl }
 
 -- a load
-by_taken : (v : CaseView) (c : RawCase) (o : Result Held CaseRefusal) → Checked v.progress.schema
+by_taken : (v : CaseView) (c : RawCase) (o : Result Held CallRefusal) → Admitted v.progress.schema
     → entries_taken v.progress.schema 0 c.entries (held no_facts (cleared v.store)) ≡ o
     → Kept (if_accepted (by_entries c.number v o).answer (entries_read c.entries) []) (by_entries c.number v o).after
 by_taken v c (Err r) k q = opening c.number v k
@@ -52,13 +52,13 @@ by_taken v c (Ok h) k q =
     let t = were_taken v.progress.schema c.entries 0 (held no_facts (cleared v.store)) h q in
     record { checked = k; runs = t.runs; list = t.list; offered = refl }
 
-by_line : (v : CaseView) (o : Option RawCase) → Checked v.progress.schema
+by_line : (v : CaseView) (o : Option RawCase) → Admitted v.progress.schema
     → Kept (if_accepted (by_record v o).answer (record_entries o) []) (by_record v o).after
 by_line v None k = opening 0 v k
 by_line v (Some c) k = by_taken v c (entries_taken v.progress.schema 0 c.entries (held no_facts (cleared v.store))) k refl
 
 -- a step
-by_entered : (H : List Entry) (v : CaseView) (e : Entry) (o : Result Held CaseRefusal) → Kept H v
+by_entered : (H : List Entry) (v : CaseView) (e : Entry) (o : Result Held CallRefusal) → Kept H v
     → entered v.progress.schema None e (held v.progress.facts v.store) ≡ o
     → Kept (if_accepted (by_held v o).answer (H ++ e ∷ []) H) (by_held v o).after
 by_entered H v e (Err r) k q = k
@@ -99,7 +99,7 @@ module _ (cost : ℕ) where
   kept (life.steps {H} {v} e l) = by_entered H v e (entered v.progress.schema None e (held v.progress.facts v.store)) (kept l) refl
   kept (repeats {H} {v} i free b l) = by_left H v i free (kept l) (step_in v.progress.schema v.progress.facts (Leave i)) refl
 
-err_ok : {P : Type 0} (r : CaseRefusal) → ◌≡◌ {A = Result (Unit {0}) CaseRefusal} (Err r) (Ok tt) → P
+err_ok : {P : Type 0} (r : CallRefusal) → ◌≡◌ {A = Result (Unit {0}) CallRefusal} (Err r) (Ok tt) → P
 err_ok r e = absurd (let z : ◌≡◌ {A = ℕ} 0 1 = cc in omega arith)
 
 -- when calls are accepted
@@ -113,7 +113,7 @@ module _ {H : List Entry} {v : CaseView} (k : Kept H v) where
   pub steps_have_cause : StepsHaveCause H v
   steps_have_cause e = (forth (entered S None e (held fs v.store)) refl, back)
     where
-      forth : (o : Result Held CaseRefusal) → entered S None e (held fs v.store) ≡ o → (by_held v o).answer ≡ Ok tt
+      forth : (o : Result Held CallRefusal) → entered S None e (held fs v.store) ≡ o → (by_held v o).answer ≡ Ok tt
           → ((gs : List Fact) × Runs S no_facts (H ++ e ∷ []) gs) × (0 < v.store.free)
       forth (Err r) q a = err_ok r a
       forth (Ok h) q a =
@@ -150,7 +150,7 @@ module _ (v : CaseView) (line : List ℕ) where
   abbrev empty : Held
   empty = held no_facts (cleared v.store)
 
-  by_all : (c : RawCase) (o : Result Held CaseRefusal) → case_in line ≡ Some c → entries_taken on 0 c.entries empty ≡ o → (by_entries c.number v o).answer ≡ Ok tt → Loadable line v
+  by_all : (c : RawCase) (o : Result Held CallRefusal) → case_in line ≡ Some c → entries_taken on 0 c.entries empty ≡ o → (by_entries c.number v o).answer ≡ Ok tt → Loadable line v
   by_all c (Err r) i q a = err_ok r a
   by_all c (Ok h) i q a =
       let t = were_taken on c.entries 0 empty h q in

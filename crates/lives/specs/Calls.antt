@@ -10,7 +10,6 @@ use Rattle.model.specs.declared.Entry.TheVariants.{Leave}
 use Rattle.model.specs.declared.Fact.{Fact}
 use Rattle.model.specs.declared.refusal.StepRefusal.{StepRefusal}
 use Rattle.model.specs.declared.refusal.StepRefusal.TheVariants as refusal
-use Rattle.model.specs.declared.refusal.CaseRefusal.{CaseRefusal}
 use Rattle.model.specs.declared.refusal.CaseRefusal.TheVariants as case
 use Rattle.model.specs.Entries.{entry_id, entry_read}
 use Rattle.facts.specs.Facts.{reset}
@@ -23,15 +22,17 @@ use Rattle.history.specs.declared.Full.{Full}
 use Rattle.history.specs.Stores.{StoreView, cleared, add_answer, added, purge_answer}
 use Rattle.rounds.specs.Rounds.{in_round, outside}
 use Rattle.lives.specs.Views.{CaseView, in_progress}
+use Rattle.lives.specs.declared.CallRefusal.{CallRefusal}
+use Rattle.lives.specs.declared.CallRefusal.TheVariants as call
 
 pub record Outcome : Type 0 where
-  pub answer : Result (Unit {0}) CaseRefusal
+  pub answer : Result (Unit {0}) CallRefusal
   pub after : CaseView
 
 abbrev pub accepted : CaseView → Outcome
 accepted v = record { answer = Ok tt; after = v }
 
-abbrev pub refused : CaseRefusal → CaseView → Outcome
+abbrev pub refused : CallRefusal → CaseView → Outcome
 refused r v = record { answer = Err r; after = v }
 
 -- Open: no facts, store and worklist cleared, and then offered what the schema activates at once.
@@ -50,20 +51,20 @@ abbrev pub held : List Fact → StoreView → Held
 held fs s = record { facts = fs; store = s }
 
 -- A step that the schema allows asks the store for a place.
-abbrev pub by_store : Option ℕ → Entry → List Fact → StoreView → Result (Unit {0}) Full → Result Held CaseRefusal
+abbrev pub by_store : Option ℕ → Entry → List Fact → StoreView → Result (Unit {0}) Full → Result Held CallRefusal
 by_store p e gs s (Ok u) = Ok (held gs (added e s))
-by_store p e gs s (Err f) = Err (case.Store p (entry_id e))
+by_store p e gs s (Err f) = Err (call.Store p (entry_id e))
 
-abbrev pub by_schema : Option ℕ → Entry → StoreView → Result (List Fact) StepRefusal → Result Held CaseRefusal
+abbrev pub by_schema : Option ℕ → Entry → StoreView → Result (List Fact) StepRefusal → Result Held CallRefusal
 by_schema p e s (Ok gs) = by_store p e gs s (add_answer s)
-by_schema p e s (Err k) = Err (case.Step p (entry_id e) k)
+by_schema p e s (Err k) = Err (call.Case (case.Step p (entry_id e) k))
 
 -- The entry at place p of a record, or that of a direct call, which has no place.
-abbrev pub entered : SchemaParts → Option ℕ → Entry → Held → Result Held CaseRefusal
+abbrev pub entered : SchemaParts → Option ℕ → Entry → Held → Result Held CallRefusal
 entered S p e h = by_schema p e h.store (step_in S h.facts e)
 
 -- A refusal changes nothing; else the worklist is brought in step.
-abbrev pub by_held : CaseView → Result Held CaseRefusal → Outcome
+abbrev pub by_held : CaseView → Result Held CallRefusal → Outcome
 by_held v (Ok h) = accepted (in_progress v.number v.progress.schema h.facts h.store)
 by_held v (Err r) = refused r v
 
@@ -77,37 +78,37 @@ dropped S i free s = record { list = outside (in_round S.row i) s.list; free = f
 abbrev pub by_purge : ℕ → ℕ → CaseView → Result (Unit {0}) Full → Outcome
 by_purge i free v (Ok u) =
     accepted (in_progress v.number v.progress.schema (reset (in_round v.progress.schema.row i) v.progress.facts) (dropped v.progress.schema i free v.store))
-by_purge i free v (Err f) = refused (case.Store None i) v
+by_purge i free v (Err f) = refused (call.Store None i) v
 
 -- Again needs what leaving needs: an Activated test.
 abbrev pub by_test : ℕ → ℕ → ℕ → CaseView → Result (List Fact) StepRefusal → Outcome
 by_test cost i free v (Ok gs) = by_purge i free v (purge_answer cost v.store)
-by_test cost i free v (Err k) = refused (case.Step None i k) v
+by_test cost i free v (Err k) = refused (call.Case (case.Step None i k)) v
 
 abbrev pub again_outcome : ℕ → ℕ → ℕ → CaseView → Outcome
 again_outcome cost i free v = by_test cost i free v (step_in v.progress.schema v.progress.facts (Leave i))
 
 -- The entry that the bytes at place p spell.
-abbrev pub taken : SchemaParts → ℕ → RawEntry → Held → Option Entry → Result Held CaseRefusal
-taken S p r h None = Err (case.Step (Some p) r.id refusal.Node)
+abbrev pub taken : SchemaParts → ℕ → RawEntry → Held → Option Entry → Result Held CallRefusal
+taken S p r h None = Err (call.Case (case.Step (Some p) r.id refusal.Node))
 taken S p r h (Some e) = entered S (Some p) e h
 
-abbrev pub and_then : Result Held CaseRefusal → (Held → Result Held CaseRefusal) → Result Held CaseRefusal
+abbrev pub and_then : Result Held CallRefusal → (Held → Result Held CallRefusal) → Result Held CallRefusal
 and_then (Ok h) more = more h
 and_then (Err r) more = Err r
 
 -- The entries from place p on, each judged in full before the next.
-abbrev pub entries_taken : SchemaParts → ℕ → List RawEntry → Held → Result Held CaseRefusal
+abbrev pub entries_taken : SchemaParts → ℕ → List RawEntry → Held → Result Held CallRefusal
 entries_taken S p [] h = Ok h
 entries_taken S p (r ∷ rs) h = and_then (taken S p r h (entry_read r.kind r.id r.branch)) (entries_taken S (p + 1) rs)
 
 -- A refused load leaves the case opened and empty.
-abbrev pub by_entries : ℕ → CaseView → Result Held CaseRefusal → Outcome
+abbrev pub by_entries : ℕ → CaseView → Result Held CallRefusal → Outcome
 by_entries n v (Ok h) = accepted (in_progress n v.progress.schema h.facts h.store)
 by_entries n v (Err r) = refused r (opened n v)
 
 abbrev pub by_record : CaseView → Option RawCase → Outcome
-by_record v None = refused case.Line (opened 0 v)
+by_record v None = refused (call.Case case.Line) (opened 0 v)
 by_record v (Some c) = by_entries c.number v (entries_taken v.progress.schema 0 c.entries (held no_facts (cleared v.store)))
 
 abbrev pub load_outcome : List ℕ → CaseView → Outcome

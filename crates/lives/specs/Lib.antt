@@ -1,3 +1,4 @@
+pub mod Refusals
 pub mod Offers
 pub mod Views
 pub mod Calls

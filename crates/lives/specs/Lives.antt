@@ -2,9 +2,9 @@
 --   Life cost H v    a case can come to hold v, and its loop-reduced history is then H; a purge costs its store `cost`
 use Rattle.std.specs.Prelude.{◌≡◌, ℕ, ◌+◌, ◌≤◌, List, [], ◌∷◌, ◌++◌, length, Some, None, Ok, Err, Option, Result}
 use Rattle.model.specs.declared.Entry.{Entry}
-use Rattle.model.specs.declared.refusal.CaseRefusal.{CaseRefusal}
+use Rattle.lives.specs.declared.CallRefusal.{CallRefusal}
 use Rattle.model.specs.Entries.{entry_read}
-use Rattle.schema.specs.Checks.{SchemaParts, Checked}
+use Rattle.schema.specs.Checks.{SchemaParts, Admitted}
 use Rattle.case_record.specs.declared.RawEntry.{RawEntry}
 use Rattle.case_record.specs.CaseRecords.{RawCase, case_in}
 use Rattle.rounds.specs.Rounds.{in_round, outside}
@@ -12,7 +12,7 @@ use Rattle.lives.specs.Views.{CaseView}
 use Rattle.lives.specs.Calls.{Outcome, opened, step_outcome, again_outcome, load_outcome}
 
 -- The history after a call: it changes only where the call is accepted.
-abbrev pub if_accepted : Result (Unit {0}) CaseRefusal → List Entry → List Entry → List Entry
+abbrev pub if_accepted : Result (Unit {0}) CallRefusal → List Entry → List Entry → List Entry
 if_accepted (Ok u) new old = new
 if_accepted (Err r) new old = old
 
@@ -55,8 +55,8 @@ pub record Leaves (cost i free : ℕ) (v : CaseView) : Type 0 where
 -- A life begins by opening or loading, on any schema that passed the checks, whatever number, facts, store and worklist were
 -- before; it goes on with steps and agains, accepted or refused.
 pub data Life (cost : ℕ) : List Entry → CaseView → Type 0 where
-  opens : (v : CaseView) (n : ℕ) → Checked v.progress.schema → Life cost opened_history (opened n v)
-  loads : (v : CaseView) (line : List ℕ) → Checked v.progress.schema → Life cost (loaded_history line v) (load_outcome line v).after
+  opens : (v : CaseView) (n : ℕ) → Admitted v.progress.schema → Life cost opened_history (opened n v)
+  loads : (v : CaseView) (line : List ℕ) → Admitted v.progress.schema → Life cost (loaded_history line v) (load_outcome line v).after
   steps : {H : List Entry} {v : CaseView} (e : Entry) → Life cost H v → Life cost (stepped_history e v H) (step_outcome e v).after
   repeats : {H : List Entry} {v : CaseView} (i free : ℕ) → ((again_outcome cost i free v).answer ≡ Ok tt → Leaves cost i free v) → Life cost H v
       → Life cost (repeated_history cost i free v H) (again_outcome cost i free v).after

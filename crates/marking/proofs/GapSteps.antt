@@ -1,5 +1,5 @@
 -- The pass writes the signal of one gap more, and of the last. Assumes nothing.
-use Rattle.std.proofs.Common.{◌≡◌, ℕ, ◌+◌, ◌<◌, ◌≤◌, List, [], ◌∷◌, ◌++◌, length, get_or, take, drop, set, sym, refl, ap, ◌∙◌, subst, append_assoc, arith, length-set, take_all}
+use Rattle.std.proofs.Common.{◌≡◌, ℕ, ◌+◌, ◌<◌, ◌≤◌, List, [], ◌∷◌, ◌++◌, length, get_or, take, drop, set, sym, ap, ◌∙◌, append_assoc, arith, length-set, take_all}
 use Rattle.std.proofs.lemmas.List.{drop_more, drop_all, take_more_set}
 use Rattle.model.specs.declared.Element.{Element}
 use Rattle.model.specs.declared.Fact.{Fact}

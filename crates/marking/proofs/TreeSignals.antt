@@ -1,8 +1,8 @@
 -- On the row of a tree the pass from left to right gives the signals of the tree. Assumes nothing.
-use Rattle.std.proofs.Common.{◌≡◌, ℕ, ◌+◌, ◌-◌, ◌<◌, ◌≤◌, Bool, true, false, cond, ◌&&◌, eqb, ltb, ◌⊎◌, List, [], ◌∷◌, Some, Option, sym, refl, ap, ◌∙◌, subst, inl, inr, arith}
+use Rattle.std.proofs.Common.{◌≡◌, ℕ, ◌+◌, ◌-◌, Bool, true, false, cond, ◌&&◌, ltb, List, [], ◌∷◌, Some, Option, refl, ap, ◌∙◌, arith}
 use Rattle.std.proofs.lemmas.Bool.Decides.{nat_tests}
 use Rattle.model.specs.declared.Element.{Element}
-use Rattle.model.specs.declared.Element.TheVariants.{Activity, AndSplit, Bar, AndJoin, XorSplit, XorJoin, LoopStart, LoopEnd}
+use Rattle.model.specs.declared.Element.TheVariants.{Bar, AndJoin, XorJoin, LoopEnd}
 use Rattle.model.specs.declared.Fact.{Fact}
 use Rattle.model.specs.declared.Fact.TheVariants.{Nothing, Begun, Ended, Decided, Left}
 use Rattle.model.specs.declared.Signal.{Signal}
@@ -11,9 +11,9 @@ use Rattle.marking.specs.declared.signals.Choice.{Choice}
 use Rattle.marking.specs.declared.signals.Choice.TheVariants.{Undecided, Ahead, Behind}
 use Rattle.marking.specs.declared.signals.Opened.{Opened}
 use Rattle.marking.specs.declared.signals.Opened.TheVariants.{And, Xor}
-use Rattle.model.specs.Trees.{Seq, nil, cons, Item, activity, loop, and, xor, Branches, last, bar, spell, spell_item, spell_branches, flatten}
-use Rattle.model.specs.Signals.{fact_of, is_true, is_false, and_joined, decided, is_branch, head_of, ends, after, all_true, decided_end, gaps, gaps_item, gaps_and, gaps_xor, tree_signals}
-use Rattle.marking.specs.Machine.{choice_of, chosen, turned, ending, xor_joined, gap, start, signals, OfTree}
+use Rattle.model.specs.Trees.{Seq, nil, cons, Item, activity, loop, and, xor, Branches, last, bar, spell, spell_item, spell_branches}
+use Rattle.model.specs.Signals.{fact_of, is_true, is_false, and_joined, decided, is_branch, head_of, ends, after, all_true, decided_end, gaps, gaps_item, gaps_and, gaps_xor}
+use Rattle.marking.specs.Machine.{choice_of, chosen, turned, ending, gap, start, signals, OfTree}
 
 and_assoc : (a b c : Bool) → ((a && b) && c) ≡ (a && (b && c))
 and_assoc true b c = refl

@@ -2,7 +2,7 @@
 --   step fs x st       behind element x: the signal, and the blocks open there
 --   signals fs st xs   the signals of the gaps from here on
 -- `OfTree` says that on the row of a tree these are the tree's signals.
-use Rattle.std.specs.Prelude.{◌≡◌, ℕ, ◌+◌, ◌-◌, Bool, true, false, cond, ◌&&◌, List, [], ◌∷◌, Some, Option, ◌==◌}
+use Rattle.std.specs.Prelude.{◌≡◌, ◌-◌, Bool, true, cond, ◌&&◌, List, [], ◌∷◌, Some, Option, ◌==◌}
 use Rattle.stack.specs.Items.{head, tail}
 use Rattle.model.specs.declared.Element.{Element}
 use Rattle.model.specs.declared.Element.TheVariants.{Activity, AndSplit, Bar, AndJoin, XorSplit, XorJoin, LoopStart, LoopEnd}

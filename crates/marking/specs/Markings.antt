@@ -1,11 +1,10 @@
 -- The marking of a schema under a case's facts. Assumes nothing.
 --   branch-in xs fs id   the branch that the decision of this id decided, if the row has the decision
 --   MarkingOf xs es fs m what a marking holds
-use Rattle.std.specs.Prelude.{◌≡◌, ℕ, ◌<◌, Bool, List, Some, None, Option, slice_index_or}
+use Rattle.std.specs.Prelude.{◌≡◌, ℕ, ◌<◌, List, None, slice_index_or}
 use Rattle.model.specs.declared.Element.{Element}
 use Rattle.model.specs.declared.Edge.{Edge}
 use Rattle.model.specs.declared.Fact.{Fact}
-use Rattle.model.specs.declared.State.{State}
 use Rattle.model.specs.Signals.{fact_of, decided}
 use Rattle.marking.specs.declared.marking.Marking.{Marking}
 use Rattle.marking.specs.States.{state_in, finished_in}

@@ -1,4 +1,6 @@
 // What a case is doing, from its facts: the signals of a row's gaps and the states of its nodes.
+#![tactic(auto)]
+
 pub mod marking;
 mod signals;
 mod states;

@@ -3,7 +3,7 @@ use Rattle.std.proofs.Common.{◌≡◌, ℕ, Bool, true, false, cond, eqb, Some
 use Rattle.std.proofs.lemmas.Bool.{eqb-true}
 use Rattle.model.specs.declared.Entry.{Entry}
 use Rattle.model.specs.declared.Entry.TheVariants.{Start, End, Choose, Leave}
-use Rattle.model.specs.Entries.{entry_id, entry_kind, branch_byte, EntryBytes, without_branch, entry_read}
+use Rattle.model.specs.Entries.{entry_id, entry_kind, branch_byte, EntryBytes, entry_read}
 
 never : {P : Type 0} (e : Entry) → ◌≡◌ {A = Option Entry} None (Some e) → P
 never e h = absurd (let z : ◌≡◌ {A = ℕ} 0 1 = cc in omega arith)

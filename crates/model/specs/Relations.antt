@@ -3,7 +3,7 @@
 --   Beside t u v     an AND block holds u in an earlier branch than v
 --   SameLoop t u v  activities with the same innermost loop, or in none
 --   Joins t u v      a sync edge may lead between u and v
-use Rattle.std.specs.Prelude.{◌≡◌, ℕ, ◌<◌, ◌⊎◌}
+use Rattle.std.specs.Prelude.{◌≡◌, ℕ, ◌⊎◌}
 use Rattle.model.specs.Trees.{Seq, nil, cons, Item, activity, loop, and, xor, Branches, last, bar}
 
 -- An activity, a test or a decision of the tree, however deep.

@@ -1,5 +1,5 @@
 -- What a node is doing, from its own signal, its fact and its sync sources. Assumes nothing.
-use Rattle.std.specs.Prelude.{Bool, true, false, cond}
+use Rattle.std.specs.Prelude.{Bool, cond}
 use Rattle.model.specs.declared.Fact.{Fact}
 use Rattle.model.specs.declared.Fact.TheVariants.{Nothing, Begun, Ended, Decided, Left}
 use Rattle.model.specs.declared.Signal.{Signal}

@@ -1,4 +1,6 @@
 // The words that every part of the engine speaks: elements of a row, sync edges, refusals.
+#![tactic(auto)]
+
 ghost use Rattle.std.specs.Prelude.{◌≡◌};
 ghost use Rattle.model.specs.Elements.{bytes_read, Spelled, node_id};
 ghost use Rattle.model.specs.Entries.{entry_read, EntrySpelled, entry_id};

@@ -1,4 +1,6 @@
 // A schema as a person reads it: a line for each element, with its depth as indentation, and one for each edge.
+#![tactic(auto)]
+
 use model::Element;
 use schema::schema::Schema;
 use std::fmt;

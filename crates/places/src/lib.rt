@@ -1,4 +1,6 @@
 // A list that grows in places that were handed to it.
+#![tactic(auto)]
+
 ghost use Rattle.std.specs.Prelude.{◌≡◌, ◌-◌, [], length, take};
 ghost use Rattle.history.specs.Stores.{refusal};
 ghost use Rattle.places.specs.AppendLists.{held, left, size, usage, pushed, push_answer};

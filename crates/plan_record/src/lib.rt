@@ -1,4 +1,6 @@
 // Plan records and the changes that they list.
+#![tactic(auto)]
+
 mod laws;
 mod plans;
 #[cfg(test)]

@@ -8,7 +8,7 @@ use Rattle.std.proofs.lemmas.Bool.Decides.{same_from_decides, Decides-by_or, Dec
 use Rattle.worklist.specs.Offers.{with_id, without_id}
 use Rattle.queue.specs.Orders.{listed, offered_order, withdrawn_order}
 
-pub listed_contains : (xs : List ℕ) (id : ℕ) (r : Bool) → IsAnyAnswer (λ y t. Decides t (y ≡ id)) xs r → r ≡ listed xs id
+pub listed_contains : (xs : List ℕ) (id : ℕ) (r : Bool) → IsAnyAnswer (λ y t. eqb y id ≡ t) xs r → r ≡ listed xs id
 listed_contains xs id r h =
     same_from_decides r (listed xs id) (contains_decides eqb Decides-eqb xs id r h)
     (Decides-by_or (λ x. eqb x id) (λ x. x ≡ id) (λ ys. listed ys id) (λ x. Decides-eqb x id) refl (λ _ _. refl) xs)

@@ -1,4 +1,6 @@
 // A worklist that keeps the order of offering.
+#![tactic(auto)]
+
 ghost use Rattle.std.specs.Prelude.{◌≡◌, ◌≤◌, true, length, take};
 ghost use Rattle.queue.specs.Orders.{each_once};
 

@@ -1,5 +1,5 @@
 -- Bytes two by two: how many pairs there are, what stands in each, and back again.
-use Rattle.std.proofs.Common.{◌≡◌, ℕ, zero, suc, ◌+◌, ◌*◌, ◌/◌, ◌<◌, ◌≤◌, List, [], ◌∷◌, ◌++◌, length, get_or, Some, None, sym, refl, ap, ◌∙◌, arith}
+use Rattle.std.proofs.Common.{◌≡◌, ℕ, zero, suc, ◌+◌, ◌*◌, ◌/◌, ◌<◌, List, [], ◌∷◌, length, get_or, Some, refl, ap, arith}
 use Rattle.std.specs.List.{AllByRecursion as All, slice_get}
 use Rattle.record.specs.Pairs.{pairs, unpaired, Paired}
 use Rattle.record.specs.SchemaRecords.{BytePair}

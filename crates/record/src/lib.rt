@@ -1,4 +1,6 @@
 // Lines and the records that they spell.
+#![tactic(auto)]
+
 ghost use Rattle.std.specs.Prelude.{◌≡◌, ◌≤◌, length};
 
 mod laws;

@@ -1,4 +1,6 @@
 // Replays cases on a schema, entry by entry. The first line of standard input is the schema, the others are cases.
+#![tactic(auto)]
+
 use case_record::CaseRecord;
 use facts::Facts;
 use input::next_line;

@@ -22,7 +22,7 @@ use Rattle.edges.proofs.TreeOrder.{Once}
 use Rattle.edges.proofs.RowIds as rows
 use Rattle.layout.specs.Nodes.{Finds}
 use Rattle.layout.proofs.Finds.{places_find}
-use Rattle.schema.specs.Checks.{SchemaParts, Checked}
+use Rattle.schema.specs.Checks.{SchemaParts, Admitted}
 use Rattle.schema.specs.Reading.{among}
 use Rattle.schema.specs.Tables.{place_in}
 use Rattle.schema.proofs.Checked.{checked_fine, checked_nested}
@@ -64,7 +64,7 @@ unranked (Decided b) h = absurd (omega arith)
 unranked Left h = absurd (omega arith)
 
 -- the body of a loop of the tree, decided by P
-module _ (S : SchemaParts) (c : Checked S) (t : Seq) (is : S.row ≡ flatten t) (u : Seq) (i : ℕ) (at : Holds t (loop u i)) (P : ℕ → Bool) (decides : (id : ℕ) → Decides (P id) (In u id)) where
+module _ (S : SchemaParts) (c : Admitted S) (t : Seq) (is : S.row ≡ flatten t) (u : Seq) (i : ℕ) (at : Holds t (loop u i)) (P : ℕ → Bool) (decides : (id : ℕ) → Decides (P id) (In u id)) where
   once : Once t
   once = rows.once_tree t (subst Unique is (checked_fine S.row S.edges c.passed).0)
 
@@ -125,18 +125,18 @@ module _ (S : SchemaParts) (c : Checked S) (t : Seq) (is : S.row ≡ flatten t) 
   dropped : (fs gs : List Fact) (es : List Entry) → length fs ≡ 64 → Sound S.row fs → Runs S fs es gs → fact_of gs i ≡ Nothing → Runs S (reset P fs) (outside P es) (reset P gs)
   dropped fs gs [] n s ends q = ends
   dropped fs gs (e ∷ es) n s (steps a r) q =
-      go (P (entry_id e)) refl (dropped (set fs (entry_id e) (fact_set e)) gs es (length-set fs (entry_id e) (fact_set e) ∙ n) (step_sound S c fs e n s a) r q)
+      go (P (entry_id e)) refl (dropped (set fs (entry_id e) (fact_set e)) gs es (length-set fs (entry_id e) (fact_set e) ∙ n) (step_sound S c.passed fs e n s a) r q)
     where
       low : entry_id e < length fs
-      low = subst (λ k. entry_id e < k) (sym n) (step_of S c fs e a).low
+      low = subst (λ k. entry_id e < k) (sym n) (step_of S c.passed fs e a).low
 
       undone : fact_of fs i ≡ Nothing
-      undone = from_nothing (fact_of fs i) (subst (Grown (fact_of fs i)) q ((ran S c fs gs (e ∷ es) n s (steps a r)).grown i))
+      undone = from_nothing (fact_of fs i) (subst (Grown (fact_of fs i)) q ((ran S c.passed fs gs (e ∷ es) n s (steps a r)).grown i))
 
       still_undone : fact_of (set fs (entry_id e) (fact_set e)) i ≡ Nothing
       still_undone =
           from_nothing _ (subst (Grown (fact_of (set fs (entry_id e) (fact_set e)) i)) q
-          ((ran S c (set fs (entry_id e) (fact_set e)) gs es (length-set fs (entry_id e) (fact_set e) ∙ n) (step_sound S c fs e n s a) r).grown i))
+          ((ran S c.passed (set fs (entry_id e) (fact_set e)) gs es (length-set fs (entry_id e) (fact_set e) ∙ n) (step_sound S c.passed fs e n s a) r).grown i))
 
       other : entry_id e ≡ i → ⊥
       other h =
@@ -251,7 +251,7 @@ decides_in u id =
     let d = decides_among (flatten u) id in
     (λ e. ⊎_elim (λ h. h) (λ z. absurd z) (rows.found id u [] (d.0 e)), λ h. d.1 (rows.among id u [] (inl h)))
 
-pub finished_dropped : (S : SchemaParts) (gs : List Fact) (es : List Entry) (i : ℕ) → Checked S → Runs S no_facts es gs → Allowed S gs (Leave i)
+pub finished_dropped : (S : SchemaParts) (gs : List Fact) (es : List Entry) (i : ℕ) → Admitted S → Runs S no_facts es gs → Allowed S gs (Leave i)
     → Runs S no_facts (outside (in_round S.row i) es) (reset (in_round S.row i) gs)
 finished_dropped S gs es i c r a =
     let n = checked_nested S.row S.edges c.passed in
@@ -259,6 +259,6 @@ finished_dropped S gs es i c r a =
     let l = left_loop i S.row n.0 n.2 a.fits in
     ⊎_elim
     (λ e. dropped_first S c n.0 n.2 l.0 i l.1 (in_round S.row i)
-    (λ id. subst (λ xs. Decides (among xs id) (In l.0 id)) (sym e) (decides_in l.0 id)) gs es r (unranked (fact_of gs i) (step_of S c gs (Leave i) a).before))
+    (λ id. subst (λ xs. Decides (among xs id) (In l.0 id)) (sym e) (decides_in l.0 id)) gs es r (unranked (fact_of gs i) (step_of S c.passed gs (Leave i) a).before))
     (λ e. nothing_dropped (in_round S.row i) (λ id. ap (λ xs. among xs id) e) S no_facts gs es r)
     (body_or_nothing l.0 i S.row n.0 n.2 fine.0 fine.1 l.1)

@@ -12,7 +12,7 @@ use Rattle.edges.specs.Verdicts.{edges_verdict}
 use Rattle.edges.proofs.TreeOrder.{Once, OnceItem, OnceBranches}
 use Rattle.edges.proofs.NodeRelations.{level_in, level_in_item, level_in_branches}
 use Rattle.edges.proofs.OrderTold.{tells}
-use Rattle.schema.specs.Checks.{SchemaParts, Checked, distinct}
+use Rattle.schema.specs.Checks.{SchemaParts, Admitted, distinct}
 use Rattle.schema.proofs.Checked.{checked_fine}
 use Rattle.rounds.proofs.HeldItems.{held, held_at, held_branches}
 
@@ -114,7 +114,7 @@ is_ok (Ok tt) e = refl
 is_ok (Err k) e = absurd (let z : ◌≡◌ {A = ℕ} 0 1 = cc in omega arith)
 
 -- every edge of a schema that passed the checks joins what may be joined
-pub checked_joined : (S : SchemaParts) → Checked S → (t : Seq) → S.row ≡ flatten t → AllJoined t S.edges
+pub checked_joined : (S : SchemaParts) → Admitted S → (t : Seq) → S.row ≡ flatten t → AllJoined t S.edges
 checked_joined S c t e =
     let fine = checked_fine S.row S.edges c.passed in
     let ok = is_ok (edges_verdict S.row S.edges) (and_parts (not (is_some (fault [] 0 S.row))) _ (and_parts (distinct S.row) _ c.passed).1).1 in

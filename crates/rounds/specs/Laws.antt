@@ -6,7 +6,7 @@ use Rattle.model.specs.declared.Fact.{Fact}
 use Rattle.model.specs.Trees.{Seq, loop, flatten}
 use Rattle.model.specs.Nodes.{Holds}
 use Rattle.facts.specs.Facts.{reset}
-use Rattle.schema.specs.Checks.{SchemaParts, Checked}
+use Rattle.schema.specs.Checks.{SchemaParts, Admitted}
 use Rattle.runs.specs.Steps.{Allowed, Runs}
 use Rattle.agreement.specs.Laws.{no_facts}
 use Rattle.rounds.specs.Rounds.{between, in_round, outside}
@@ -14,12 +14,12 @@ use Rattle.rounds.specs.Rounds.{between, in_round, outside}
 -- What stands between a loop's start and its test is the loop's body.
 abbrev pub ARoundIsTheLoopsBody : Type 0
 ARoundIsTheLoopsBody =
-    (S : SchemaParts) (t u : Seq) (i : ℕ) → Checked S → S.row ≡ flatten t → Holds t (loop u i)
+    (S : SchemaParts) (t u : Seq) (i : ℕ) → Admitted S → S.row ≡ flatten t → Holds t (loop u i)
     → between S.row i ≡ flatten u
 
 -- Where a loop's test may be taken, the entries of the body can be dropped from the history: the others run, and end in
 -- the same facts without those of the body.
 abbrev pub AFinishedRoundCanBeDropped : Type 0
 AFinishedRoundCanBeDropped =
-    (S : SchemaParts) (gs : List Fact) (es : List Entry) (i : ℕ) → Checked S → Runs S no_facts es gs → Allowed S gs (Leave i)
+    (S : SchemaParts) (gs : List Fact) (es : List Entry) (i : ℕ) → Admitted S → Runs S no_facts es gs → Allowed S gs (Leave i)
     → Runs S no_facts (outside (in_round S.row i) es) (reset (in_round S.row i) gs)

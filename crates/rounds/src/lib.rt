@@ -1,4 +1,6 @@
 // Rounds of loops.
+#![tactic(auto)]
+
 pub mod laws;
 pub mod nodes;
 #[cfg(test)]

@@ -1,5 +1,5 @@
 -- The tables of a tree's row tell whether the tree has the node of a step. Assumes nothing.
-use Rattle.std.proofs.Common.{◌≡◌, ℕ, zero, suc, ◌+◌, ◌<◌, ◌≤◌, Bool, true, false, cond, ltb, leb, ◌⊎◌, List, [], ◌∷◌, ◌++◌, length, get_or, Some, None, Decides, Option, sym, refl, ap, ◌∙◌, subst, inl, inr, arith}
+use Rattle.std.proofs.Common.{◌≡◌, ℕ, zero, suc, ◌+◌, ◌<◌, ◌≤◌, true, cond, leb, ◌⊎◌, List, [], ◌∷◌, ◌++◌, length, get_or, Some, None, Decides, Option, sym, refl, ap, ◌∙◌, subst, inl, inr, arith}
 use Rattle.std.proofs.lemmas.List.{append_assoc, length-append, get_or_at}
 use Rattle.std.proofs.lemmas.Bool.{false≢true, leb-true, le-leb, lt-ltb}
 use Rattle.model.specs.declared.Element.{Element}
@@ -10,13 +10,12 @@ use Rattle.model.specs.Entries.{entry_id}
 use Rattle.model.specs.Nodes.{Holds, HasNode}
 use Rattle.model.specs.Rows.{Bears, Unique, Low}
 use Rattle.model.specs.Trees.{Seq, Item, activity, loop, and, xor, Branches, last, bar, spell, spell_branches, flatten, count}
-use Rattle.layout.specs.declared.Position.{Position}
 use Rattle.layout.specs.Pass.{outside, tables_of}
 use Rattle.layout.specs.Nodes.{Finds}
-use Rattle.layout.specs.Gaps.{Begins, Closes, gap_of, Within, Inside, Ends, Ended, Stands}
+use Rattle.layout.specs.Gaps.{Begins, Closes, gap_of, Within, Inside, Ended}
 use Rattle.layout.proofs.Facts.{spell_append, spell_append_branches, among_from, finds_place, within_after, last_branch}
 use Rattle.layout.proofs.Finds.{places_find}
-use Rattle.layout.proofs.Items.{Spelt, spelt, Member, Node, NodeOf, Found, found}
+use Rattle.layout.proofs.Items.{spelt, Member, Node, NodeOf, Found, found}
 use Rattle.layout.proofs.Laid.{tables_laid}
 use Rattle.schema.specs.declared.schema.Schema.{Schema}
 use Rattle.schema.specs.Schemas.{parts}

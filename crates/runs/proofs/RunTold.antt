@@ -5,14 +5,12 @@ use Rattle.model.specs.declared.Entry.{Entry}
 use Rattle.model.specs.declared.Fact.{Fact}
 use Rattle.model.specs.declared.refusal.StepRefusal.{StepRefusal}
 use Rattle.model.specs.declared.refusal.StepRefusal.TheVariants as refusal
-use Rattle.model.specs.declared.refusal.CaseRefusal.{CaseRefusal}
-use Rattle.model.specs.declared.refusal.CaseRefusal.TheVariants as case
 use Rattle.model.specs.Entries.{entry_id, fact_set, EntryBytes, entry_read}
 use Rattle.model.proofs.EntryBytes.{entry_is, is_entry}
 use Rattle.case_record.specs.declared.RawEntry.{RawEntry}
 use Rattle.schema.specs.Checks.{SchemaParts}
 use Rattle.runs.specs.Steps.{Allowed, Runs, ends, steps, step_in, judged}
-use Rattle.runs.specs.Histories.{Ran, ran_to, judged_raw, stopped, then_ran, ran, Spelled, Stops, Goes, Told, RunTold}
+use Rattle.runs.specs.Histories.{Ran, ran_to, judged_raw, stopped, then_ran, ran, Spelled, RunTold}
 use Rattle.runs.proofs.Allows.{allowed_step, step_allowed, step_refused}
 
 spelled_last : (rs : List RawEntry) (es : List Entry) (r : RawEntry) (e : Entry) → Spelled rs es → EntryBytes r.kind r.id r.branch e → Spelled (rs ++ r ∷ []) (es ++ e ∷ [])

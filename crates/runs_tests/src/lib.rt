@@ -1,3 +1,5 @@
 // Worked examples of runs and markings.
+#![tactic(auto)]
+
 #[cfg(test)]
 mod tests;

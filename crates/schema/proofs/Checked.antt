@@ -1,23 +1,20 @@
 -- What a schema's own fields tell of its row. Assumes nothing.
-use Rattle.std.proofs.Common.{◌≡◌, ℕ, ◌<◌, Bool, true, false, not, ◌&&◌, ltb, ◌⊎◌, List, [], ◌∷◌, is_some, is_ok, Some, None, Option, sym, refl, ap, ◌∙◌, subst, inl, inr, arith}
+use Rattle.std.proofs.Common.{◌≡◌, ℕ, Bool, true, false, not, ◌&&◌, List, [], ◌∷◌, is_some, Some, None, Option, refl, ap, inl, inr, arith}
 use mathlib.Core.Logic.{∥∥₁_elim}
 use base.Stored.{Coded, Coded-set, coded_ℕ, coded_list, coded_via, coded×}
-use Rattle.std.proofs.lemmas.Bool.{ltb-true}
 use Rattle.ids.specs.declared.IdSet.{IdSet}
 use Rattle.model.specs.declared.Element.{Element}
 use Rattle.model.specs.declared.Edge.{Edge}
 use Rattle.model.specs.Elements.{node_id}
-use Rattle.model.specs.Rows.{Bears, Among, Unique, Low}
+use Rattle.model.specs.Rows.{Low}
 use Rattle.model.specs.Trees.{Nested}
 use Rattle.blocks.specs.Blocks.{fault}
 use Rattle.blocks.proofs.RowsOfTrees.{tells_ok}
 use Rattle.edges.specs.declared.order.Order.{Order}
 use Rattle.edges.specs.Places.{OrderOf}
-use Rattle.edges.specs.Verdicts.{edges_verdict}
 use Rattle.layout.specs.declared.Layout.{Layout}
 use Rattle.layout.specs.declared.Position.{Position}
 use Rattle.layout.specs.Pass.{LayoutOf}
-use Rattle.schema.specs.Reading.{used}
 use Rattle.schema.specs.declared.schema.Schema.{Schema}
 use Rattle.schema.specs.Schemas.{parts}
 use Rattle.schema.specs.Checks.{low_id, distinct, passes, Admitted}

@@ -1,13 +1,12 @@
 -- From a line's decoding to the answer. Assumes nothing.
-use Rattle.std.proofs.Common.{◌≡◌, ℕ, ◌<◌, ◌≤◌, Bool, true, false, cond, ◌||◌, eqb, ltb, leb, List, length, Some, None, Ok, Err, Option, Result, sym, refl, ap, ◌∙◌, arith}
+use Rattle.std.proofs.Common.{◌≡◌, ℕ, Bool, true, false, cond, ◌||◌, eqb, ltb, leb, List, length, Some, None, Err, Option, sym, refl, ap, ◌∙◌, arith}
 use Rattle.std.proofs.lemmas.Bool.Decides.{nat_tests}
 use Rattle.record.specs.Hex.{spelled}
-use Rattle.record.specs.Lines.{Held, Short, Overlong, held_of, whole_line}
-use Rattle.model.specs.declared.refusal.SchemaRefusal.{SchemaRefusal}
+use Rattle.record.specs.Lines.{Short, Overlong, held_of, whole_line}
 use Rattle.model.specs.declared.refusal.SchemaRefusal.TheVariants as refusal
 use Rattle.record.specs.Hex.{decoded}
 use Rattle.record.specs.SchemaRecords.{RawSchema, read_schema, read_decoded}
-use Rattle.schema.specs.Checks.{SchemaParts, by_record, schema_read}
+use Rattle.schema.specs.Checks.{by_record, schema_read}
 
 pub of_decoded : (line : List ℕ) (o : Option (List ℕ)) → o ≡ decoded line → by_record (read_decoded o) ≡ schema_read line
 of_decoded line o e = ap (λ d. by_record (read_decoded d)) e

@@ -1,15 +1,15 @@
 -- No other answer to a line is right. Assumes nothing.
-use Rattle.std.proofs.Common.{◌≡◌, ℕ, zero, suc, ◌+◌, ◌<◌, ◌≤◌, Bool, true, false, cond, ◌||◌, ◌⊎◌, List, [], ◌∷◌, ◌++◌, length, take, drop, Some, None, Ok, Err, Option, Result, sym, refl, ap, ◌∙◌, subst, inl, inr, ⊎_elim, arith}
+use Rattle.std.proofs.Common.{◌≡◌, ℕ, zero, suc, ◌+◌, ◌<◌, ◌≤◌, Bool, true, false, cond, List, [], ◌∷◌, ◌++◌, length, take, drop, Some, None, Ok, Err, Option, Result, sym, refl, ap, ◌∙◌, subst, inl, inr, ⊎_elim, arith}
 use Rattle.std.proofs.lemmas.List.{append-nil, append_assoc}
 use Rattle.std.proofs.lemmas.Bool.{cases_order}
 use Rattle.model.specs.declared.Element.{Element}
 use Rattle.model.specs.declared.Edge.{Edge}
 use Rattle.model.specs.declared.refusal.SchemaRefusal.{SchemaRefusal}
 use Rattle.model.specs.declared.refusal.SchemaRefusal.TheVariants as refusal
-use Rattle.model.specs.Elements.{node_id, bytes_read, Bytes_of}
-use Rattle.model.specs.Rows.{Bears, Among, Unique, Low}
-use Rattle.model.specs.Trees.{Seq, flatten, Nested, Extends, First}
-use Rattle.model.specs.Paths.{Proper, Answer}
+use Rattle.model.specs.Elements.{bytes_read}
+use Rattle.model.specs.Rows.{Unique}
+use Rattle.model.specs.Trees.{Seq, Nested, Extends, First}
+use Rattle.model.specs.Paths.{Answer}
 use Rattle.model.proofs.Bytes.{read_is, is_read}
 use Rattle.blocks.specs.Blocks.{fault}
 use Rattle.blocks.proofs.FirstFaults.{first}
@@ -18,10 +18,10 @@ use Rattle.edges.specs.Verdicts.{edges_verdict}
 use Rattle.edges.proofs.OrderTold.{tells}
 use Rattle.record.specs.SchemaRecords.{RawSchema, schema_in}
 use Rattle.record.proofs.Writings.{reading_inverts_writing}
-use Rattle.schema.specs.Reading.{used, row_taken, row_read}
+use Rattle.schema.specs.Reading.{row_taken, row_read}
 use Rattle.schema.specs.Checks.{SchemaParts, over, edges_of, by_edges, by_blocks, by_row, schema_checked, by_record, schema_read}
-use Rattle.schema.specs.Causes.{Spells, Fine, Reused, Wrong, FirstWrong, Large, SpelledRow, TreeOf, EdgesAnswer, Passed, Rightly, LineOf, ReadRightly}
-use Rattle.schema.proofs.Wrongs.{used_false, not_reused, reused, among_left, among_right}
+use Rattle.schema.specs.Causes.{Spells, Fine, Reused, Wrong, FirstWrong, Large, SpelledRow, TreeOf, EdgesAnswer, Rightly, ReadRightly}
+use Rattle.schema.proofs.Wrongs.{not_reused, reused, among_right}
 use Rattle.schema.proofs.Rights.{decides_large}
 
 -- a row that is spelled without fault is read

@@ -1,5 +1,5 @@
 -- What passed the three checks passes. Assumes nothing.
-use Rattle.std.proofs.Common.{◌≡◌, ℕ, Bool, true, false, not, ◌&&◌, List, [], is_some, is_ok, Ok, Err, Result, sym, refl, ap, ◌∙◌}
+use Rattle.std.proofs.Common.{◌≡◌, true, false, not, ◌&&◌, List, [], is_some, is_ok, Ok, sym, ap, ◌∙◌}
 use Rattle.model.specs.declared.Element.{Element}
 use Rattle.model.specs.declared.Edge.{Edge}
 use Rattle.blocks.specs.Blocks.{fault}

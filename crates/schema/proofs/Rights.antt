@@ -1,11 +1,10 @@
 -- The answer to a line is the one that the rules give. Assumes nothing.
-use Rattle.std.proofs.Common.{◌≡◌, ℕ, ◌<◌, Bool, true, false, cond, ◌||◌, ltb, ◌⊎◌, List, [], ◌∷◌, ◌++◌, length, Some, None, Ok, Err, Decides, Option, Result, sym, refl, ap, ◌∙◌, subst, inl, inr, ⊎_elim, arith}
+use Rattle.std.proofs.Common.{◌≡◌, ℕ, Bool, true, false, cond, List, [], length, Some, None, Ok, Err, Decides, Option, Result, refl, inl, inr, arith}
 use Rattle.std.proofs.lemmas.Bool.Decides.{Decides-ltb, Decides-or, not_from_Decides}
 use Rattle.model.specs.declared.Element.{Element}
 use Rattle.model.specs.declared.Edge.{Edge}
-use Rattle.model.specs.declared.refusal.SchemaRefusal.{SchemaRefusal}
 use Rattle.model.specs.declared.refusal.SchemaRefusal.TheVariants as refusal
-use Rattle.model.specs.Trees.{Seq, flatten, Nested}
+use Rattle.model.specs.Trees.{Seq}
 use Rattle.blocks.specs.Blocks.{fault}
 use Rattle.blocks.proofs.FirstFaults.{first}
 use Rattle.blocks.proofs.RowsOfTrees.{tells_ok}
@@ -14,8 +13,8 @@ use Rattle.edges.proofs.OrderTold.{tells, leaves}
 use Rattle.record.specs.SchemaRecords.{RawSchema, schema_in}
 use Rattle.record.proofs.Writings.{reading_inverts_writing}
 use Rattle.schema.specs.Reading.{row_read}
-use Rattle.schema.specs.Checks.{SchemaParts, over, edges_of, by_edges, by_blocks, by_row, schema_checked, by_record, schema_read}
-use Rattle.schema.specs.Causes.{Fine, Large, SpelledRow, TreeOf, EdgesAnswer, Passed, Rightly, LineOf, ReadRightly}
+use Rattle.schema.specs.Checks.{over, edges_of, by_edges, by_blocks, by_row, schema_checked, by_record, schema_read}
+use Rattle.schema.specs.Causes.{Large, SpelledRow, TreeOf, Rightly, ReadRightly}
 use Rattle.schema.proofs.Wrongs.{read_fine, read_wrong}
 
 pub decides_large : (raw : RawSchema) → Decides (over raw) (Large raw)

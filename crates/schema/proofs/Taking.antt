@@ -1,8 +1,8 @@
 -- One element more of a row that is read. Assumes nothing.
-use Rattle.std.proofs.Common.{◌≡◌, ℕ, ◌+◌, ◌<◌, ◌≤◌, Bool, true, false, cond, ◌||◌, eqb, List, [], ◌∷◌, ◌++◌, length, get_or, drop, Some, None, Ok, Err, Option, Result, sym, refl, ap, ◌∙◌, subst, arith}
+use Rattle.std.proofs.Common.{◌≡◌, ℕ, ◌+◌, ◌<◌, Bool, true, false, cond, ◌||◌, List, [], ◌∷◌, ◌++◌, length, get_or, drop, Some, None, Ok, Err, Option, Result, sym, refl, ap, ◌∙◌, arith}
 use Rattle.std.proofs.lemmas.List.{at_drop_more}
 use Rattle.ids.specs.declared.IdSet.{IdSet}
-use Rattle.ids.specs.Sets.{has, only, union}
+use Rattle.ids.specs.Sets.{has, only}
 use Rattle.ids.proofs.Laws.{has_union, has_only}
 use Rattle.model.specs.declared.Element.{Element}
 use Rattle.model.specs.Elements.{node_id, bytes_read, LowId}

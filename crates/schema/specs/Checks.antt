@@ -4,7 +4,7 @@
 --   Admitted          a schema that is within the limits and passed them
 --   schema_checked    the schema of a record, or why it is refused
 --   schema_read       the schema of a line, or why it is refused
-use Rattle.std.specs.Prelude.{◌≡◌, ℕ, ◌≤◌, Bool, true, false, cond, not, ◌&&◌, ◌||◌, List, [], ◌∷◌, map, length, is_some, is_ok, Some, None, Ok, Err, Option, Result, nat_lt}
+use Rattle.std.specs.Prelude.{◌≡◌, ℕ, ◌≤◌, Bool, true, cond, not, ◌&&◌, ◌||◌, List, [], ◌∷◌, map, length, is_some, is_ok, Some, None, Ok, Err, Option, Result, nat_lt}
 use Rattle.model.specs.declared.Element.{Element}
 use Rattle.model.specs.declared.Edge.{Edge}
 use Rattle.model.specs.declared.refusal.SchemaRefusal.{SchemaRefusal}

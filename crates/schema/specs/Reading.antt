@@ -1,7 +1,7 @@
 -- The row that a record's elements spell, one after the other. Assumes nothing.
 --   among xs u       whether node u is in the row
 --   row_read         the row, or the place of the first element that is wrong
-use Rattle.std.specs.Prelude.{ℕ, ◌+◌, Bool, true, false, cond, ◌||◌, List, [], ◌∷◌, ◌++◌, Some, None, Ok, Err, Option, Result, ◌==◌}
+use Rattle.std.specs.Prelude.{ℕ, ◌+◌, Bool, false, cond, ◌||◌, List, [], ◌∷◌, ◌++◌, Some, None, Ok, Err, Option, Result, ◌==◌}
 use Rattle.model.specs.declared.Element.{Element}
 use Rattle.model.specs.declared.Edge.{Edge}
 use Rattle.model.specs.Elements.{node_id, bytes_read}

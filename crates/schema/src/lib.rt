@@ -1,4 +1,6 @@
 // Schemas that passed the checks.
+#![tactic(auto)]
+
 mod rows;
 pub mod schema;
 pub mod space;

@@ -1,4 +1,6 @@
 // A stack of at most 128 values: one for each element of a row at most.
+#![tactic(auto)]
+
 ghost use Rattle.std.specs.Prelude.{◌≡◌, ◌≤◌, length};
 
 pub mod methods;

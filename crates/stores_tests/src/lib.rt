@@ -1,3 +1,5 @@
 // Worked examples of stores.
+#![tactic(auto)]
+
 #[cfg(test)]
 mod tests;

@@ -1,4 +1,6 @@
 // A history in a table without gaps: a purge frees the places of what it takes out.
+#![tactic(auto)]
+
 ghost use Rattle.std.specs.Prelude.{◌≡◌, ◌-◌, length};
 ghost use Rattle.std.proofs.Common.{lit≤};
 ghost use Rattle.std.specs.List.{slice_get};

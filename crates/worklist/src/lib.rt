@@ -1,4 +1,6 @@
 // What is offered to do: the interface of a worklist, a board, and bringing any worklist in step.
+#![tactic(auto)]
+
 ghost use Rattle.std.specs.Prelude.{◌≡◌, ℕ, ◌≤◌, Bool, false};
 ghost use Rattle.ids.specs.Counts.{how_many};
 ghost use Rattle.worklist.specs.Offers.{none_offered, with_id, without_id};

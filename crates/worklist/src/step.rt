@@ -9,8 +9,8 @@ use ids::IdSet;
 
 // Offers what is wanted and not in, withdraws what is in and not wanted, and leaves the rest alone.
 pub fn bring_in_step<W: Worklist>(worklist: &mut W, wanted: IdSet)
-    ensures after { offered worklist.new ≡ has wanted }
-    ensures difference { ByDifference offered offering withdrawing (has wanted) 64 worklist.old worklist.new }
+    ensures after { W.offered worklist.new ≡ has wanted }
+    ensures difference { ByDifference W.offered W.offering W.withdrawing (has wanted) 64 worklist.old worklist.new }
 {
     for id in 0..64 {
         bring_id_in_step(worklist, wanted, id);
@@ -20,8 +20,8 @@ pub fn bring_in_step<W: Worklist>(worklist: &mut W, wanted: IdSet)
 // The same for one id.
 fn bring_id_in_step<W: Worklist>(worklist: &mut W, wanted: IdSet, id: u8)
     requires { id < 64 }
-    ensures after { offered worklist.new ≡ in_step_at id (has wanted) (offered worklist.old) }
-    ensures difference { Brought offered offering withdrawing (has wanted) id worklist.old worklist.new }
+    ensures after { W.offered worklist.new ≡ in_step_at id (has wanted) (W.offered worklist.old) }
+    ensures difference { Brought W.offered W.offering W.withdrawing (has wanted) id worklist.old worklist.new }
 {
     if wanted.has(id) {
         if !worklist.has(id) {

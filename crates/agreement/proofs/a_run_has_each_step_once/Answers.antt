@@ -1,4 +1,3 @@
-use Rattle.std.proofs.Common.{length}
 use Rattle.std.proofs.lemmas.List.{length-replicate}
 use Rattle.model.specs.declared.Fact.{Fact}
 use Rattle.model.specs.declared.Fact.TheVariants.{Nothing}

@@ -18,16 +18,16 @@ item-returns-in-Nothing t c =
     let within : c.args.at < length c.args.row.now = omega arith in
     ends_here _ _ _ within c.in-Nothing.ensures
 
-pub item-returns-in-err-end : goal.item-returns-in-err-end
-item-returns-in-err-end t c =
+pub item-returns-in_err-end : goal.item-returns-in_err-end
+item-returns-in_err-end t c =
     let within : c.args.at < length c.args.row.now = omega arith in
-    let p = err_from_is_err_and c.from-residual.result c.from-residual.ensures.1 in
-    rw (p.1, p.2) (λ s. passes_opener _ _ _ within _ c.in-Block.ensures s ∙ c.in-err-end.ensures _)
+    let p = err_from_is_err_and c.from_residual.result c.from_residual.ensures.1 in
+    rw (p.1, p.2) (λ s. passes_opener _ _ _ within _ c.in-Block.ensures s ∙ c.in_err-end.ensures _)
 
 pub item-loop-end-init : goal.item-loop-end-init
 item-loop-end-init t c =
     let within : c.args.at < length c.args.row.now = omega arith in
-    let read = c.in-ok-end.ensures in
+    let read = c.in_ok-end.ensures in
     (omega (arith, read), read.1, read.2, λ s. passes_opener _ _ _ within _ c.in-Block.ensures s ∙ read.3 _)
 
 pub item-returns-in-Closed : goal.item-returns-in-Closed
@@ -40,17 +40,17 @@ item-returns-in-Refused t c s =
     let inv = c.loop-end.invariant in
     inv.3 s ∙ by_next _ _ _ c.loop-end-test.true inv.2 _ _ c.in-Refused.ensures s
 
-pub item-returns-in-err-end-2 : goal.item-returns-in-err-end-2
-item-returns-in-err-end-2 t c =
+pub item-returns-in_err-end-2 : goal.item-returns-in_err-end-2
+item-returns-in_err-end-2 t c =
     let inv = c.loop-end.invariant in
-    let p = err_from_is_err_and c.from-residual-in-err-end-2.result c.from-residual-in-err-end-2.ensures.1 in
+    let p = err_from_is_err_and c.from_residual-in_err-end-2.result c.from_residual-in_err-end-2.ensures.1 in
     rw (p.1, p.2)
-    (λ s. inv.3 s ∙ by_next _ _ _ c.loop-end-test.true inv.2 _ _ c.in-Branch.ensures s ∙ c.in-err-end-2.ensures _)
+    (λ s. inv.3 s ∙ by_next _ _ _ c.loop-end-test.true inv.2 _ _ c.in-Branch.ensures s ∙ c.in_err-end-2.ensures _)
 
 pub item-loop-end-preserved : goal.item-loop-end-preserved
 item-loop-end-preserved t c =
     let inv = c.loop-end.invariant in
-    let read = c.in-ok-end-2.ensures in (
+    let read = c.in_ok-end-2.ensures in (
       omega (arith, read),
       read.1,
       read.2,

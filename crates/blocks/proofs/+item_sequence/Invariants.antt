@@ -1,4 +1,4 @@
-use Rattle.std.proofs.Common.{◌≡◌, ◌+◌, ◌-◌, ◌*◌, ◌<◌, ◌≤◌, false, List, ◌∷◌, length, drop}
+use Rattle.std.proofs.Common.{◌≡◌, ◌+◌, ◌-◌, ◌*◌, ◌<◌, ◌≤◌, List, ◌∷◌, length, drop}
 use Rattle.blocks.specs.Blocks.{fault, Ends, Passes}
 use Rattle.blocks.specs.declared.Frame.{Frame}
 use Rattle.blocks.proofs.+item_sequence.Given as goal

@@ -6,20 +6,20 @@ use Rattle.blocks.proofs.CheckSteps.{closed_at_end, refused_outside}
 use Rattle.blocks.proofs.FirstFaults.{told}
 use Rattle.blocks.proofs.check_blocks.Goals as goal
 
-pub returns-in-err-end : goal.returns-in-err-end
-returns-in-err-end c =
-    let p = err_from_is_err_and c.from-residual.result c.from-residual.ensures.1 in
-    let e : c.from-residual.result ≡ verdict (fault [] 0 c.args.row.now) = rw (p.1, p.2) (sym (ap verdict (c.in-err-end.ensures _))) in
+pub returns-in_err-end : goal.returns-in_err-end
+returns-in_err-end c =
+    let p = err_from_is_err_and c.from_residual.result c.from_residual.ensures.1 in
+    let e : c.from_residual.result ≡ verdict (fault [] 0 c.args.row.now) = rw (p.1, p.2) (sym (ap verdict (c.in_err-end.ensures _))) in
     record { place = e; tree = told _ _ e }
 
 pub returns-then-end-row : goal.returns-then-end-row
 returns-then-end-row c =
-    let h = c.in-ok-end.ensures in
+    let h = c.in_ok-end.ensures in
     let e = sym (ap verdict (h.3 _ ∙ refused_outside _ _ (Activity 0) c.if-end-row.true h.2)) in
     record { place = e; tree = told _ _ e }
 
 pub returns-else-end-row : goal.returns-else-end-row
 returns-else-end-row c =
-    let h = c.in-ok-end.ensures in
+    let h = c.in_ok-end.ensures in
     let e = sym (ap verdict (h.3 _ ∙ closed_at_end _ _ c.if-end-row.false)) in
     record { place = e; tree = told _ _ e }

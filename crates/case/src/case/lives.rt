@@ -12,6 +12,7 @@ use case_record::CaseRecord;
 use entering::entries::take_all;
 use facts::Facts;
 use history::Store;
+use lives::CallRefusal;
 use model::refusal::CaseRefusal;
 use record::Record;
 use schema::schema::Schema;
@@ -45,16 +46,16 @@ impl<'s, const COST: usize, S: Store<COST>, W: Worklist> Case<'s, COST, S, W> {
     }
 
     // Opens the case, since a line was none.
-    fn refuse_line(&mut self) -> Result<(), CaseRefusal>
+    fn refuse_line(&mut self) -> Result<(), CallRefusal>
         ensures answer { result ≡ (by_record (view_of S.Store.view W.Worklist.offered self.old) None).answer }
         ensures after { view_of S.Store.view W.Worklist.offered self.new ≡ (by_record (view_of S.Store.view W.Worklist.offered self.old) None).after }
     {
         self.open(0);
-        Err(CaseRefusal::Line)
+        Err(CallRefusal::Case(CaseRefusal::Line))
     }
 
     // Begins with the history of a record.
-    fn load_history(&mut self, history: CaseRecord<'_>) -> Result<(), CaseRefusal>
+    fn load_history(&mut self, history: CaseRecord<'_>) -> Result<(), CallRefusal>
         ensures answer { result ≡ (by_record (view_of S.Store.view W.Worklist.offered self.old) (Some (raw history.entry))).answer }
         ensures after { view_of S.Store.view W.Worklist.offered self.new ≡ (by_record (view_of S.Store.view W.Worklist.offered self.old) (Some (raw history.entry))).after }
     {
@@ -82,7 +83,7 @@ impl<'s, const COST: usize, S: Store<COST>, W: Worklist> Case<'s, COST, S, W> {
 
     // Begins a new life with the case that a line writes, each entry judged in full before the next. A refused load
     // leaves the case opened and empty.
-    pub fn load(&mut self, line: &[u8]) -> Result<(), CaseRefusal>
+    pub fn load(&mut self, line: &[u8]) -> Result<(), CallRefusal>
         ensures answer { result ≡ (load_outcome line.now (view_of S.Store.view W.Worklist.offered self.old)).answer }
         ensures after { view_of S.Store.view W.Worklist.offered self.new ≡ (load_outcome line.now (view_of S.Store.view W.Worklist.offered self.old)).after }
         ensures life { Life COST (loaded_history line.now (view_of S.Store.view W.Worklist.offered self.old)) (view_of S.Store.view W.Worklist.offered self.new) }

@@ -14,6 +14,7 @@ use entering::entries::enter;
 use entering::offers::activated_activities;
 use history::Store;
 use model::Entry;
+use lives::CallRefusal;
 use model::refusal::CaseRefusal;
 use rounds::nodes::round_of;
 use runs::steps::step;
@@ -29,7 +30,7 @@ impl<'s, const COST: usize, S: Store<COST>, W: Worklist> Case<'s, COST, S, W> {
     }
 
     // Takes the step of this entry.
-    fn take_step(&mut self, entry: Entry) -> Result<(), CaseRefusal>
+    fn take_step(&mut self, entry: Entry) -> Result<(), CallRefusal>
         ensures answer { result ≡ (step_outcome entry (view_of S.Store.view W.Worklist.offered self.old)).answer }
         ensures after { view_of S.Store.view W.Worklist.offered self.new ≡ (step_outcome entry (view_of S.Store.view W.Worklist.offered self.old)).after }
         ensures life { (H : List Entry) → Life COST H (view_of S.Store.view W.Worklist.offered self.old) → Life COST (stepped_history entry (view_of S.Store.view W.Worklist.offered self.old) H) (view_of S.Store.view W.Worklist.offered self.new) }
@@ -44,7 +45,7 @@ impl<'s, const COST: usize, S: Store<COST>, W: Worklist> Case<'s, COST, S, W> {
     }
 
     // Begins an Activated activity.
-    pub fn start(&mut self, id: u8) -> Result<(), CaseRefusal>
+    pub fn start(&mut self, id: u8) -> Result<(), CallRefusal>
         ensures answer { result ≡ (step_outcome (Start id) (view_of S.Store.view W.Worklist.offered self.old)).answer }
         ensures after { view_of S.Store.view W.Worklist.offered self.new ≡ (step_outcome (Start id) (view_of S.Store.view W.Worklist.offered self.old)).after }
         ensures life { (H : List Entry) → Life COST H (view_of S.Store.view W.Worklist.offered self.old) → Life COST (stepped_history (Start id) (view_of S.Store.view W.Worklist.offered self.old) H) (view_of S.Store.view W.Worklist.offered self.new) }
@@ -53,7 +54,7 @@ impl<'s, const COST: usize, S: Store<COST>, W: Worklist> Case<'s, COST, S, W> {
     }
 
     // Ends a Running activity.
-    pub fn finish(&mut self, id: u8) -> Result<(), CaseRefusal>
+    pub fn finish(&mut self, id: u8) -> Result<(), CallRefusal>
         ensures answer { result ≡ (step_outcome (End id) (view_of S.Store.view W.Worklist.offered self.old)).answer }
         ensures after { view_of S.Store.view W.Worklist.offered self.new ≡ (step_outcome (End id) (view_of S.Store.view W.Worklist.offered self.old)).after }
         ensures life { (H : List Entry) → Life COST H (view_of S.Store.view W.Worklist.offered self.old) → Life COST (stepped_history (End id) (view_of S.Store.view W.Worklist.offered self.old) H) (view_of S.Store.view W.Worklist.offered self.new) }
@@ -62,7 +63,7 @@ impl<'s, const COST: usize, S: Store<COST>, W: Worklist> Case<'s, COST, S, W> {
     }
 
     // Decides an Activated decision for one of its branches.
-    pub fn choose(&mut self, id: u8, branch: u8) -> Result<(), CaseRefusal>
+    pub fn choose(&mut self, id: u8, branch: u8) -> Result<(), CallRefusal>
         ensures answer { result ≡ (step_outcome (Choose id branch) (view_of S.Store.view W.Worklist.offered self.old)).answer }
         ensures after { view_of S.Store.view W.Worklist.offered self.new ≡ (step_outcome (Choose id branch) (view_of S.Store.view W.Worklist.offered self.old)).after }
         ensures life { (H : List Entry) → Life COST H (view_of S.Store.view W.Worklist.offered self.old) → Life COST (stepped_history (Choose id branch) (view_of S.Store.view W.Worklist.offered self.old) H) (view_of S.Store.view W.Worklist.offered self.new) }
@@ -71,7 +72,7 @@ impl<'s, const COST: usize, S: Store<COST>, W: Worklist> Case<'s, COST, S, W> {
     }
 
     // Leaves the loop of an Activated test.
-    pub fn leave(&mut self, id: u8) -> Result<(), CaseRefusal>
+    pub fn leave(&mut self, id: u8) -> Result<(), CallRefusal>
         ensures answer { result ≡ (step_outcome (Leave id) (view_of S.Store.view W.Worklist.offered self.old)).answer }
         ensures after { view_of S.Store.view W.Worklist.offered self.new ≡ (step_outcome (Leave id) (view_of S.Store.view W.Worklist.offered self.old)).after }
         ensures life { (H : List Entry) → Life COST H (view_of S.Store.view W.Worklist.offered self.old) → Life COST (stepped_history (Leave id) (view_of S.Store.view W.Worklist.offered self.old) H) (view_of S.Store.view W.Worklist.offered self.new) }
@@ -80,7 +81,7 @@ impl<'s, const COST: usize, S: Store<COST>, W: Worklist> Case<'s, COST, S, W> {
     }
 
     // Goes round once more in the loop of an Activated test: what happened between its start and its end is forgotten.
-    pub fn again(&mut self, test: u8) -> Result<(), CaseRefusal>
+    pub fn again(&mut self, test: u8) -> Result<(), CallRefusal>
         ensures answer { result ≡ (again_outcome COST test (S.Store.view self.new.store).free (view_of S.Store.view W.Worklist.offered self.old)).answer }
         ensures after { view_of S.Store.view W.Worklist.offered self.new ≡ (again_outcome COST test (S.Store.view self.new.store).free (view_of S.Store.view W.Worklist.offered self.old)).after }
         ensures bounds { result ≡ Ok tt → Leaves COST test (S.Store.view self.new.store).free (view_of S.Store.view W.Worklist.offered self.old) }
@@ -97,17 +98,17 @@ impl<'s, const COST: usize, S: Store<COST>, W: Worklist> Case<'s, COST, S, W> {
                         self.refresh();
                         Ok(())
                     }
-                    Err(_) => Err(CaseRefusal::Store {
+                    Err(_) => Err(CallRefusal::Store {
                         place: None,
                         id: test,
                     }),
                 }
             }
-            Err(refusal) => Err(CaseRefusal::Step {
+            Err(refusal) => Err(CallRefusal::Case(CaseRefusal::Step {
                 place: None,
                 id: test,
                 refusal,
-            }),
+            })),
         }
     }
 }

@@ -4,20 +4,20 @@ use Rattle.case_record.specs.Entries.{entries_in, zeros}
 use Rattle.case_record.proofs.Triples.{length_entries, nth_entries}
 use Rattle.case_record.proofs.CaseRecord.entry.Goals as goal
 
-pub overflow-mul-at : goal.overflow-mul-at
-overflow-mul-at c = omega (arith, length_entries c.args.self.now.entries.now)
+pub overflow_mul-at : goal.overflow_mul-at
+overflow_mul-at c = omega (arith, length_entries c.args.self.now.entries.now)
 
 pub bounds-self-at : goal.bounds-self-at
 bounds-self-at c = omega (arith, length_entries c.args.self.now.entries.now)
 
-pub overflow-add-result : goal.overflow-add-result
-overflow-add-result c = omega (arith, length_entries c.args.self.now.entries.now)
+pub overflow_add-result : goal.overflow_add-result
+overflow_add-result c = omega (arith, length_entries c.args.self.now.entries.now)
 
 pub bounds-self-at-then-i-len : goal.bounds-self-at-then-i-len
 bounds-self-at-then-i-len c = omega (arith, length_entries c.args.self.now.entries.now)
 
-pub overflow-add-result-then-i-len : goal.overflow-add-result-then-i-len
-overflow-add-result-then-i-len c = omega (arith, length_entries c.args.self.now.entries.now)
+pub overflow_add-result-then-i-len : goal.overflow_add-result-then-i-len
+overflow_add-result-then-i-len c = omega (arith, length_entries c.args.self.now.entries.now)
 
 pub bounds-self-at-then-i-len-2 : goal.bounds-self-at-then-i-len-2
 bounds-self-at-then-i-len-2 c = omega (arith, length_entries c.args.self.now.entries.now)

@@ -24,8 +24,8 @@ loop-place-preserved c id =
     let low : is_activity x id ≡ true → id < 64 =
     λ b. (checked_fine row S.edges c.args.schema.now.passed).1 id
     (among_from row id p less (subst (λ y. Bears y id) (same_read row p (Activity 0) AndSplit less) (activity_bears x id b))) in
-    let here : has c.offered-of.result id ≡ (is_activity x id && is_activated (get_or c.of-marking.result.states id None)) =
-    c.offered-of.ensures id ∙ ap (λ xs. is_activity (get_or xs p (Activity 0)) id && is_activated (get_or c.of-marking.result.states id None)) c.row-row.ensures.value in
+    let here : has c.offered_of.result id ≡ (is_activity x id && is_activated (get_or c.of-marking.result.states id None)) =
+    c.offered_of.ensures id ∙ ap (λ xs. is_activity (get_or xs p (Activity 0)) id && is_activated (get_or c.of-marking.result.states id None)) c.row-row.ensures.value in
     c.union-ids.ensures.members id
     ∙ ap₂ ◌||◌ (c.loop-place.invariant id) here
     ∙ of_both (has_activity (take p row) id) (is_activity x id) told _ (λ b. ap is_activated (c.of-marking.ensures.value.states id (low b)))

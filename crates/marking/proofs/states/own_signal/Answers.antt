@@ -1,4 +1,4 @@
-use Rattle.std.proofs.Common.{◌≡◌, sym, ap, ◌∙◌}
+use Rattle.std.proofs.Common.{sym}
 use Rattle.schema.proofs.Checked.{checked_fine}
 use Rattle.marking.proofs.Owns.{own_at, own_none}
 use Rattle.marking.proofs.states.own_signal.Goals as goal

@@ -4,26 +4,26 @@ use Rattle.plan_record.specs.Changes.{changes_in, zeros}
 use Rattle.plan_record.proofs.Quadruples.{length_changes, nth_changes}
 use Rattle.plan_record.proofs.PlanRecord.change.Goals as goal
 
-pub overflow-mul-at : goal.overflow-mul-at
-overflow-mul-at c = omega (arith, length_changes c.args.self.now.changes.now)
+pub overflow_mul-at : goal.overflow_mul-at
+overflow_mul-at c = omega (arith, length_changes c.args.self.now.changes.now)
 
 pub bounds-self-at : goal.bounds-self-at
 bounds-self-at c = omega (arith, length_changes c.args.self.now.changes.now)
 
-pub overflow-add-result : goal.overflow-add-result
-overflow-add-result c = omega (arith, length_changes c.args.self.now.changes.now)
+pub overflow_add-result : goal.overflow_add-result
+overflow_add-result c = omega (arith, length_changes c.args.self.now.changes.now)
 
 pub bounds-self-at-then-i-len : goal.bounds-self-at-then-i-len
 bounds-self-at-then-i-len c = omega (arith, length_changes c.args.self.now.changes.now)
 
-pub overflow-add-result-then-i-len : goal.overflow-add-result-then-i-len
-overflow-add-result-then-i-len c = omega (arith, length_changes c.args.self.now.changes.now)
+pub overflow_add-result-then-i-len : goal.overflow_add-result-then-i-len
+overflow_add-result-then-i-len c = omega (arith, length_changes c.args.self.now.changes.now)
 
 pub bounds-self-at-then-i-len-2 : goal.bounds-self-at-then-i-len-2
 bounds-self-at-then-i-len-2 c = omega (arith, length_changes c.args.self.now.changes.now)
 
-pub overflow-add-result-then-i-len-2 : goal.overflow-add-result-then-i-len-2
-overflow-add-result-then-i-len-2 c = omega (arith, length_changes c.args.self.now.changes.now)
+pub overflow_add-result-then-i-len-2 : goal.overflow_add-result-then-i-len-2
+overflow_add-result-then-i-len-2 c = omega (arith, length_changes c.args.self.now.changes.now)
 
 pub bounds-self-at-then-i-len-3 : goal.bounds-self-at-then-i-len-3
 bounds-self-at-then-i-len-3 c = omega (arith, length_changes c.args.self.now.changes.now)

@@ -13,10 +13,10 @@ returns-in-2 c =
     record {
       value = is;
       whole = fourfold _ _ c.if-changes-count.true;
-      written = writes_some c.args.bytes.now _ (λ i. omega (arith, c.type-inv.bytes i)) is;
+      written = writes_some c.args.bytes.now _ (λ i. omega (arith, c.type_inv.bytes i)) is;
     }
 
-pub returns-in-default : goal.returns-in-default
-returns-in-default c =
+pub returns-in_default : goal.returns-in_default
+returns-in_default c =
     let none : None ≡ read_plan c.args.bytes.now = search rules in
     record { value = none; whole = tt; written = writes_none _ none }

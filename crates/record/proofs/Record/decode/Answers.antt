@@ -1,17 +1,17 @@
-use Rattle.std.proofs.Common.{◌≡◌, ◌+◌, ◌*◌, ◌/◌, ◌%◌, ◌<◌, ◌≤◌, length, get_or, take, Some, None, sym, ap, ◌∙◌, arith, length-set, rules}
+use Rattle.std.proofs.Common.{◌≡◌, ℕ, List, [], Option, ◌+◌, ◌*◌, ◌/◌, ◌<◌, ◌≤◌, length, get_or, take, Some, None, sym, refl, ap, ◌∙◌, arith, length-set, rules}
 use Rattle.std.proofs.lemmas.Bool.{eqb-true}
-use Rattle.record.specs.Hex.{byte_of, decoded}
+use Rattle.record.specs.Hex.{after, byte_of, decoded}
 use Rattle.record.proofs.Meanings.{spells_none, spells_some}
 use Rattle.record.proofs.Spellings.{decoded_is, decoded_empty, decoded_odd, decoded_long, spelled_more, spelled_stops, spelled_all}
 use Rattle.record.proofs.Record.decode.Goals as goal
-use Rattle.record.proofs.Record.decode.Goals.{then-is-empty-via-then-is-empty, then-is-empty-via-else-is-empty+then-line-ne0, then-is-empty-via-else-is-empty+else-line-ne0+then-line-gt-LINE-LIMIT}
+use Rattle.record.proofs.Record.decode.Goals.{then-is_empty-via-then-is_empty, then-is_empty-via-else-is_empty+then-line-ne0, then-is_empty-via-else-is_empty+else-line-ne0+then-line-gt-LINE_LIMIT}
 
-pub returns-then-is-empty : goal.returns-then-is-empty
-returns-then-is-empty c =
-    let none : None ≡ decoded c.args.line.now = elim c.then-is-empty.branch [
-      | then-is-empty-via-then-is-empty w ↦ sym (decoded_empty _ (eqb-true _ _ (sym w.if-is-empty.ensures)))
-      | then-is-empty-via-else-is-empty+then-line-ne0 w ↦ sym (decoded_odd _ w.if-line-ne0.true)
-      | then-is-empty-via-else-is-empty+else-line-ne0+then-line-gt-LINE-LIMIT w ↦ sym (decoded_long _ w.if-line-gt-LINE-LIMIT.true)
+pub returns-then-is_empty : goal.returns-then-is_empty
+returns-then-is_empty c =
+    let none : None ≡ decoded c.args.line.now = elim c.then-is_empty.branch [
+      | then-is_empty-via-then-is_empty w ↦ sym (decoded_empty _ (eqb-true _ _ (sym w.if-is_empty.ensures)))
+      | then-is_empty-via-else-is_empty+then-line-ne0 w ↦ sym (decoded_odd _ w.if-line-ne0.true)
+      | then-is_empty-via-else-is_empty+else-line-ne0+then-line-gt-LINE_LIMIT w ↦ sym (decoded_long _ w.if-line-gt-LINE_LIMIT.true)
     ] in
     record { value = none; spelled = spells_none _ none }
 
@@ -21,8 +21,16 @@ returns-in-None c =
     let some : 0 < length c.args.line.now = omega arith in
     let is : byte_of (get_or c.args.line.now (2 * c.loop-i.i) 0) (get_or c.args.line.now (2 * c.loop-i.i + 1) 0) ≡ None = search rules in
     let none : None ≡ decoded c.args.line.now =
-    sym (decoded_is _ some c.if-line-gt-LINE-LIMIT.false ∙ c.loop-i.invariant.1 ∙ spelled_stops _ _ _ two is) in
+    sym (decoded_is _ some c.if-line-gt-LINE_LIMIT.false ∙ c.loop-i.invariant.1 ∙ spelled_stops _ _ _ two is) in
     record { value = none; spelled = spells_none _ none }
+
+-- nothing in front changes nothing
+after_nothing : (o : Option (List ℕ)) → o ≡ after [] o
+after_nothing None = refl
+after_nothing (Some bs) = refl
+
+pub loop-i-init : goal.loop-i-init
+loop-i-init c = (refl, after_nothing _)
 
 pub loop-i-preserved : goal.loop-i-preserved
 loop-i-preserved c =
@@ -38,5 +46,5 @@ returns c =
     let half : length c.args.line.now / 2 ≡ c.loop-i.i = omega arith in
     let is : Some (take (length c.args.line.now / 2) c.loop-i.bytes) ≡ decoded c.args.line.now =
     ap (λ n. Some (take n c.loop-i.bytes)) half
-    ∙ sym (decoded_is _ some c.if-line-gt-LINE-LIMIT.false ∙ c.loop-i.invariant.1 ∙ spelled_all _ _ _ all) in
+    ∙ sym (decoded_is _ some c.if-line-gt-LINE_LIMIT.false ∙ c.loop-i.invariant.1 ∙ spelled_all _ _ _ all) in
     record { value = is; spelled = spells_some _ _ is }

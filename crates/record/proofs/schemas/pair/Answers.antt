@@ -1,4 +1,4 @@
-use Rattle.std.proofs.Common.{◌≡◌, ◌<◌, ◌≤◌, length, sym, arith, rules}
+use Rattle.std.proofs.Common.{◌<◌, ◌≤◌, length, sym, arith, rules}
 use Rattle.std.proofs.lemmas.Option.{slice_get-get_or, slice_get_past}
 use Rattle.record.specs.Pairs.{pairs}
 use Rattle.record.proofs.Pairings.{length_pairs, nth_pairs}

@@ -17,6 +17,6 @@ pub loop-place-preserved : goal.loop-place-preserved
 loop-place-preserved c =
     let from-there : c.args.from ≤ c.loop-place.place = c.loop-place.auto.place in
     let inside : c.loop-place.place < length c.args.row.now = omega arith in (
-      λ id. nodes_more c.args.row.now c.args.from c.loop-place.place _ id _ _ from-there inside (c.loop-place.invariant.0 id) (c.with-node-ids.ensures id),
+      λ id. nodes_more c.args.row.now c.args.from c.loop-place.place _ id _ _ from-there inside (c.loop-place.invariant.0 id) (c.with_node-ids.ensures id),
       λ h. absurd (omega arith),
     )

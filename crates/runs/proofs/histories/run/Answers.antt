@@ -1,9 +1,9 @@
-use Rattle.std.proofs.Common.{◌≡◌, ◌+◌, ◌<◌, ◌≤◌, length, drop, sym, refl, ap, ◌∙◌, arith}
+use Rattle.std.proofs.Common.{◌≤◌, length, sym, refl, ap, ◌∙◌, arith}
 use Rattle.std.proofs.lemmas.List.{at_drop_all}
 use Rattle.case_record.specs.Entries.{entries_in, zeros}
 use Rattle.facts.specs.Facts.{facts_by_id}
 use Rattle.schema.specs.Schemas.{parts}
-use Rattle.runs.specs.Histories.{ran, verdict, Ran}
+use Rattle.runs.specs.Histories.{ran, verdict}
 use Rattle.runs.proofs.RunTold.{run_told, run_only, ran_at}
 use Rattle.runs.proofs.histories.run.Goals as goal
 

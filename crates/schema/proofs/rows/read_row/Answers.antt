@@ -1,11 +1,11 @@
-use Rattle.std.proofs.Common.{◌≡◌, ◌+◌, ◌<◌, ◌≤◌, List, [], ◌∷◌, ◌++◌, length, drop, sym, refl, ap, ◌∙◌, subst, arith, length-append}
+use Rattle.std.proofs.Common.{◌≡◌, ◌+◌, ◌≤◌, [], ◌∷◌, length, drop, sym, ap, ◌∙◌, arith, length-append}
 use Rattle.std.proofs.lemmas.List.{at_drop_all}
 use Rattle.bounded.specs.Lists.{items}
 use Rattle.record.specs.Pairs.{pairs}
 use Rattle.record.proofs.Pairings.{length_pairs}
 use Rattle.schema.specs.Reading.{among, row_read}
 use Rattle.ids.specs.Sets.{has}
-use Rattle.schema.proofs.Taking.{Seen, stops, goes, keeps}
+use Rattle.schema.proofs.Taking.{stops, goes, keeps}
 use Rattle.schema.proofs.rows.read_row.Goals as goal
 
 pub loop-place-init : goal.loop-place-init
@@ -41,7 +41,7 @@ loop-place-preserved c =
     let row = items c.loop-place.row in
     let x = c.in-Some-unseen.element in (
       ap length grown ∙ length-append row (x ∷ []) ∙ ap (λ n. n + 1) c.loop-place.invariant.0,
-      λ u. ap (λ s. has s u) c.with-id-seen.ensures ∙ keeps ps _ row s _ at.0 c.in-Some.bytes at.1 x e u ∙ ap (λ xs. among xs u) (sym grown),
+      λ u. ap (λ s. has s u) c.with_id-seen.ensures ∙ keeps ps _ row s _ at.0 c.in-Some.bytes at.1 x e u ∙ ap (λ xs. among xs u) (sym grown),
       c.loop-place.invariant.2
           ∙ goes ps _ row s _ at.0 c.in-Some.bytes at.1 x e
           ∙ ap (λ xs. row_read xs (c.loop-place.place + 1) (drop (c.loop-place.place + 1) ps)) (sym grown),

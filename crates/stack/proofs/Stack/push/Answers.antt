@@ -1,4 +1,4 @@
-use Rattle.std.proofs.Common.{◌≡◌, ◌<◌, ◌≤◌, length, sym, ◌∙◌, subst, arith}
+use Rattle.std.proofs.Common.{◌<◌, ◌≤◌, length, sym, ◌∙◌, subst, arith}
 use Rattle.stack.specs.Items.{items}
 use Rattle.stack.proofs.Fronts.{front_push, front_length, pushed_room, pushed_full}
 use Rattle.stack.proofs.Stack.push.Goals as goal

@@ -10,7 +10,7 @@ loop-id-init g c = (λ i h. absurd (omega arith), none_yet)
 
 pub loop-id-preserved : goal.loop-id-preserved
 loop-id-preserved g c =
-    let step = c.bring-id-in-step.ensures in
+    let step = c.bring_id_in_step.ensures in
     (in_step_more (has c.args.wanted) _ _ c.loop-id.id c.loop-id.invariant.0 step.after, one_more c.loop-id.invariant.1 step.difference)
 
 pub returns : goal.returns

@@ -10,4 +10,4 @@ returns g c =
     let s = c.args.self.now in
     ap {B = CaseView}
     (λ (o : ℕ → Bool). record { number = s.number; progress = record { schema = parts s.schema.now; facts = facts_by_id s.facts }; store = g.S.Store.view s.store; offered = o })
-    (c.bring-in-step.ensures.after ∙ fun_ext c.activated-activities-wanted.ensures)
+    (c.bring_in_step.ensures.after ∙ fun_ext c.activated_activities-wanted.ensures)

@@ -1,7 +1,4 @@
-use Rattle.std.proofs.Common.{◌≡◌, [], ap, ◌∙◌}
-use Rattle.edges.specs.Edges.{judged}
-use Rattle.edges.specs.Places.{OrderOf, partners}
-use Rattle.edges.specs.Verdicts.{edges_checked, edges_verdict}
+use Rattle.std.proofs.Common.{◌∙◌}
 use Rattle.edges.proofs.OrderTold.{tells, leaves, of_order}
 use Rattle.edges.proofs.order.Order.check.Goals as goal
 

@@ -1,4 +1,4 @@
-use Rattle.std.proofs.Common.{◌≡◌, ℕ, ◌<◌, length, get_or, None}
+use Rattle.std.proofs.Common.{◌≡◌, ℕ, ◌<◌, get_or, None}
 use Rattle.model.specs.Signals.{fact_of, decided}
 use Rattle.marking.proofs.marking.methods.mark_branches.Given as goal
 

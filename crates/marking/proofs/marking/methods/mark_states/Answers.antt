@@ -1,4 +1,4 @@
-use Rattle.std.proofs.Common.{◌≡◌, ◌<◌, ◌≢◌, List, length, get_or, sym, ap, ◌∙◌, arith, get_or-set_other, get_or-set_same, below_more}
+use Rattle.std.proofs.Common.{◌≡◌, ◌<◌, ◌≢◌, length, get_or, ap, ◌∙◌, arith, get_or-set_other, get_or-set_same, below_more}
 use Rattle.model.specs.Signals.{is_true}
 use Rattle.model.specs.declared.Signal.TheVariants.{None}
 use Rattle.schema.specs.Schemas.{parts}
@@ -20,7 +20,7 @@ returns c =
     record {
       states = λ id h. c.loop-id.invariant id (omega arith) ∙ ap (λ gs. state_by s.row gs fs s.edges id) e;
       finished =
-          c.is-true.ensures
+          c.is_true.ensures
           ∙ ap (λ gs. is_true (get_or gs (length c.row-end.result.now) None)) e
           ∙ ap (λ xs. is_true (get_or (signals fs start s.row) (length xs) None)) c.row-end.ensures.value;
     }

@@ -1,4 +1,4 @@
-use Rattle.std.proofs.Common.{◌≡◌, ℕ, ◌<◌, length, get_or, None}
+use Rattle.std.proofs.Common.{◌≡◌, ℕ, ◌<◌, get_or, None}
 use Rattle.schema.specs.Schemas.{parts}
 use Rattle.marking.specs.States.{state_by}
 use Rattle.marking.proofs.marking.methods.mark_states.Given as goal

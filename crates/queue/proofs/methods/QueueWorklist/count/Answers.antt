@@ -6,4 +6,4 @@ use Rattle.queue.proofs.methods.QueueWorklist.count.Goals as goal
 pub returns : goal.returns
 returns c =
     let q = c.args.self.now in
-    ap length c.as-slice.ensures ∙ sym (count_once (order q) q.once)
+    ap length c.as_slice.ensures ∙ sym (count_once (order q) q.once)

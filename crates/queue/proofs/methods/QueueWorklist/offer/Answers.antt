@@ -20,11 +20,15 @@ bounds-self-self c =
     let q = c.args.self.now in
     front_room q.ids q.len c.args.id q.long q.fits q.once c.if-id-lt64.true (sym c.if-not-has.ensures)
 
-pub invariant-of-self : goal.invariant-of-self
-invariant-of-self c =
+pub invariant_of-self : goal.invariant_of-self
+invariant_of-self c =
     let q = c.args.self.now in
     let id = c.args.id in
     let new = sym c.if-not-has.ensures in
     let room = front_room q.ids q.len id q.long q.fits q.once c.if-id-lt64.true new in
     let end = take_more_set q.ids q.len id (omega arith) in
-    (length-set q.ids q.len id ∙ q.long, (omega arith, (subst (λ xs. each_once xs ≡ true) (sym end) (once_push (order q) id q.once c.if-id-lt64.true new), tt)))
+    record {
+      long = length-set q.ids q.len id ∙ q.long;
+      fits = omega arith;
+      once = subst (λ xs. each_once xs ≡ true) (sym end) (once_push (order q) id q.once c.if-id-lt64.true new);
+    }

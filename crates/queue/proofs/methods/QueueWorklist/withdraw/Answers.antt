@@ -7,11 +7,15 @@ use Rattle.queue.proofs.methods.QueueWorklist.withdraw.Goals as goal
 
 pub returns : goal.returns
 returns c =
-    let out = c.strike-out-self.ensures in
+    let out = c.strike_out-self.ensures in
     record { after = ap listed out.order ∙ listed_withdrawn c.args.id _; besides = out.order }
 
-pub invariant-of-self : goal.invariant-of-self
-invariant-of-self c =
+pub invariant_of-self : goal.invariant_of-self
+invariant_of-self c =
     let q = c.args.self.now in
-    let out = c.strike-out-self.ensures in
-    (omega arith, (omega arith, (subst (λ xs. each_once xs ≡ true) (sym out.order) (once_kept (λ x. not (eqb x c.args.id)) (order q) q.once), tt)))
+    let out = c.strike_out-self.ensures in
+    record {
+      long = omega arith;
+      fits = omega arith;
+      once = subst (λ xs. each_once xs ≡ true) (sym out.order) (once_kept (λ x. not (eqb x c.args.id)) (order q) q.once);
+    }

@@ -1,4 +1,4 @@
-use Rattle.std.proofs.Common.{◌≡◌, get_or, None, ap, ◌∙◌}
+use Rattle.std.proofs.Common.{get_or, None, ap, ◌∙◌}
 use Rattle.schema.proofs.Checked.{laid, checked_nested}
 use Rattle.schema.proofs.schema.Schema.end.Goals as goal
 

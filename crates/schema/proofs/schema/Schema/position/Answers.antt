@@ -1,4 +1,4 @@
-use Rattle.std.proofs.Common.{◌≡◌, cond, ltb, length, get_or, Some, None, ap, ◌∙◌}
+use Rattle.std.proofs.Common.{cond, ltb, length, get_or, Some, None, ap, ◌∙◌}
 use Rattle.bounded.specs.Lists.{items}
 use Rattle.layout.specs.Pass.{outside}
 use Rattle.schema.proofs.Checked.{laid, checked_nested}

@@ -1,4 +1,4 @@
-use Rattle.std.proofs.Common.{◌≡◌, ap, ◌∙◌}
+use Rattle.std.proofs.Common.{ap, ◌∙◌}
 use Rattle.edges.specs.Edges.{within}
 use Rattle.schema.proofs.Checked.{ordered, checked_fine}
 use Rattle.schema.proofs.schema.Schema.precedes.Goals as goal

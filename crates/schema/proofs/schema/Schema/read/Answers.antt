@@ -1,7 +1,5 @@
-use Rattle.std.proofs.Common.{◌≡◌, ℕ, List, Some, Result, sym, refl, ap, ◌∙◌, subst}
+use Rattle.std.proofs.Common.{◌≡◌, ℕ, List, Result, sym, ap, ◌∙◌, subst}
 use Rattle.model.specs.declared.refusal.SchemaRefusal.{SchemaRefusal}
-use Rattle.record.specs.Hex.{decoded}
-use Rattle.record.specs.Records.{record_bytes}
 use Rattle.record.specs.Readings.{raw}
 use Rattle.record.specs.SchemaRecords.{read_schema}
 use Rattle.schema.specs.Checks.{SchemaParts, schema_read, schema_checked}
@@ -18,16 +16,16 @@ right line v e = subst (ReadRightly line) (sym e) (read_rightly line)
 only : (line : List ℕ) (v : Result SchemaParts SchemaRefusal) → v ≡ schema_read line → (q : Result SchemaParts SchemaRefusal) → ReadRightly line q → q ≡ v
 only line v e q h = only_read line q h ∙ sym e
 
-pub returns-in-default : goal.returns-in-default
-returns-in-default c =
+pub returns-in_default : goal.returns-in_default
+returns-in_default c =
     let line = c.args.line.now in
-    let e = of_decoded line _ c.in-default.ensures.value in
+    let e = of_decoded line _ c.in_default.ensures.value in
     record { value = e; rightly = right line _ e; only = only line _ e }
 
-pub returns-in-default-read : goal.returns-in-default-read
-returns-in-default-read c =
+pub returns-in_default-read : goal.returns-in_default-read
+returns-in_default-read c =
     let line = c.args.line.now in
-    let e = of_bytes line _ _ c.in-Some.ensures.value (c.in-default-read.ensures.value ∙ ap read_schema c.bytes.ensures) in
+    let e = of_bytes line _ _ c.in-Some.ensures.value (c.in_default-read.ensures.value ∙ ap read_schema c.bytes.ensures) in
     record { value = e; rightly = right line _ e; only = only line _ e }
 
 pub returns : goal.returns

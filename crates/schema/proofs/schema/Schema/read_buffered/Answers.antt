@@ -1,4 +1,4 @@
-use Rattle.std.proofs.Common.{◌≡◌, ap, ◌∙◌}
+use Rattle.std.proofs.Common.{ap, ◌∙◌}
 use Rattle.record.specs.Lines.{whole_line}
 use Rattle.schema.specs.Checks.{schema_read}
 use Rattle.schema.proofs.Lines.{whole_held, part_held}

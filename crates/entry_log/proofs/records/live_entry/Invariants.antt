@@ -1,7 +1,7 @@
 use Rattle.std.proofs.Common.{◌≡◌, ◌+◌, ◌<◌, length, drop}
-use Rattle.log.specs.Logs.{live}
-use Rattle.log.proofs.Backwards.{Gone}
-use Rattle.log.proofs.records.live_entry.Given as goal
+use Rattle.entry_log.specs.Logs.{live}
+use Rattle.entry_log.proofs.Backwards.{Gone}
+use Rattle.entry_log.proofs.records.live_entry.Given as goal
 
 abbrev pub invariant-loop-i : goal.invariant-loop-i
 invariant-loop-i l =

@@ -2,7 +2,7 @@
 ghost use Rattle.std.specs.Prelude.{◌≡◌, length};
 ghost use Rattle.std.specs.List.{slice_get};
 ghost use Rattle.history.specs.Entries.{last_place};
-ghost use Rattle.log.specs.Logs.{live};
+ghost use Rattle.entry_log.specs.Logs.{live};
 
 use crate::LogRecord;
 use history::{EntryKind, is_of};

@@ -1,8 +1,8 @@
 use Rattle.std.proofs.Common.{ap}
 use Rattle.history.proofs.Views.{added_is}
-use Rattle.log.specs.Logs.{log_view}
-use Rattle.log.proofs.Marks.{live_pushed}
-use Rattle.log.proofs.LogStore1.add.Goals as goal
+use Rattle.entry_log.specs.Logs.{log_view}
+use Rattle.entry_log.proofs.Marks.{live_pushed}
+use Rattle.entry_log.proofs.LogStore1.add.Goals as goal
 
 pub returns : goal.returns
 returns c =

@@ -1,8 +1,8 @@
 use Rattle.std.proofs.Common.{◌≡◌, ◌+◌, length, drop, None}
 use Rattle.history.specs.Entries.{last_place}
-use Rattle.log.specs.Logs.{live}
-use Rattle.log.proofs.Backwards.{Gone}
-use Rattle.log.proofs.records.live_place.Given as goal
+use Rattle.entry_log.specs.Logs.{live}
+use Rattle.entry_log.proofs.Backwards.{Gone}
+use Rattle.entry_log.proofs.records.live_place.Given as goal
 
 abbrev pub invariant-loop-i : goal.invariant-loop-i
 invariant-loop-i l =

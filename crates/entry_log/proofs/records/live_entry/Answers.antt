@@ -1,9 +1,9 @@
 use Rattle.std.proofs.Common.{◌≡◌, ℕ, ◌+◌, ◌-◌, ◌<◌, List, length, sym, arith}
 use Rattle.std.proofs.lemmas.Option.{slice_get_past}
 use Rattle.model.specs.declared.Entry.{Entry}
-use Rattle.log.specs.Logs.{live}
-use Rattle.log.proofs.Backwards.{at_end, back_purged, back_taken, back_noted, found, nth_behind}
-use Rattle.log.proofs.records.live_entry.Goals as goal
+use Rattle.entry_log.specs.Logs.{live}
+use Rattle.entry_log.proofs.Backwards.{at_end, back_purged, back_taken, back_noted, found, nth_behind}
+use Rattle.entry_log.proofs.records.live_entry.Goals as goal
 
 -- the place lies below n, where the entries es of all begin
 abbrev Below : List Entry → ℕ → ℕ → List Entry → Type 0
@@ -11,12 +11,12 @@ Below all place n es = (place < n) × (n + length es ≡ length all)
 
 pub returns-then-place-count : goal.returns-then-place-count
 returns-then-place-count c =
-    sym (slice_get_past (live c.args.records.now) c.args.place (omega (arith, c.live-count-count.ensures)))
+    sym (slice_get_past (live c.args.records.now) c.args.place (omega (arith, c.live_count-count.ensures)))
 
 pub loop-i-init : goal.loop-i-init
 loop-i-init c =
-    at_end (Below (live c.args.records.now) c.args.place c.live-count-count.result) c.args.records.now _
-    c.empty-gone.ensures.members (omega arith, omega (arith, c.live-count-count.ensures))
+    at_end (Below (live c.args.records.now) c.args.place c.live_count-count.result) c.args.records.now _
+    c.empty-gone.ensures.members (omega arith, omega (arith, c.live_count-count.ensures))
 
 pub loop-i-preserved-in-Purged : goal.loop-i-preserved-in-Purged
 loop-i-preserved-in-Purged c =

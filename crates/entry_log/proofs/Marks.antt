@@ -6,9 +6,9 @@ use Rattle.model.specs.declared.Entry.{Entry}
 use Rattle.model.specs.Entries.{entry_id}
 use Rattle.history.specs.Entries.{kept}
 use Rattle.places.specs.AppendLists.{pushed}
-use Rattle.log.specs.declared.LogRecord.{LogRecord}
-use Rattle.log.specs.declared.LogRecord.TheVariants.{Noted, Purged}
-use Rattle.log.specs.Logs.{taken, live}
+use Rattle.entry_log.specs.declared.LogRecord.{LogRecord}
+use Rattle.entry_log.specs.declared.LogRecord.TheVariants.{Noted, Purged}
+use Rattle.entry_log.specs.Logs.{taken, live}
 
 pub live_first : (e : Entry) (rs : List LogRecord) → taken (entry_id e) rs ≡ false → live (Noted e ∷ rs) ≡ e ∷ live rs
 live_first e rs h = ap (λ b. cond b (live rs) (e ∷ live rs)) h

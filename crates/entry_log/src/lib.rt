@@ -1,8 +1,10 @@
 // A history in a log: nothing is taken out, and a purge is one more record.
+#![tactic(auto)]
+
 ghost use Rattle.std.specs.Prelude.{◌≡◌, ◌+◌, length, Ok};
 ghost use Rattle.std.proofs.Common.{lit≤};
 ghost use Rattle.history.specs.Stores.{fresh, refusal, purge_answer, purged, PurgeBounds};
-ghost use Rattle.log.specs.Logs.{log_view, log_within};
+ghost use Rattle.entry_log.specs.Logs.{log_view, log_within};
 
 mod records;
 

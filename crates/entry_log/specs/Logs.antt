@@ -9,9 +9,9 @@ use Rattle.model.specs.declared.Entry.{Entry}
 use Rattle.model.specs.Entries.{entry_id}
 use Rattle.history.specs.Stores.{StoreView}
 use Rattle.places.specs.AppendLists.{held, left, size, each_place}
-use Rattle.log.specs.declared.LogRecord.{LogRecord}
-use Rattle.log.specs.declared.LogRecord.TheVariants.{Noted, Purged}
-use Rattle.log.specs.declared.Log.{Log}
+use Rattle.entry_log.specs.declared.LogRecord.{LogRecord}
+use Rattle.entry_log.specs.declared.LogRecord.TheVariants.{Noted, Purged}
+use Rattle.entry_log.specs.declared.Log.{Log}
 
 abbrev pub taken : ℕ → List LogRecord → Bool
 taken id [] = false

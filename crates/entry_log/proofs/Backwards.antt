@@ -6,10 +6,10 @@ use Rattle.ids.specs.declared.IdSet.{IdSet}
 use Rattle.ids.specs.Sets.{has}
 use Rattle.model.specs.declared.Entry.{Entry}
 use Rattle.model.specs.Entries.{entry_id}
-use Rattle.log.specs.declared.LogRecord.{LogRecord}
-use Rattle.log.specs.declared.LogRecord.TheVariants.{Noted, Purged}
-use Rattle.log.specs.Logs.{taken, live}
-use Rattle.log.proofs.Marks.{live_first, live_taken}
+use Rattle.entry_log.specs.declared.LogRecord.{LogRecord}
+use Rattle.entry_log.specs.declared.LogRecord.TheVariants.{Noted, Purged}
+use Rattle.entry_log.specs.Logs.{taken, live}
+use Rattle.entry_log.proofs.Marks.{live_first, live_taken}
 
 -- the set of the nodes that these records purge
 abbrev pub Gone : IdSet → List LogRecord → Type 0

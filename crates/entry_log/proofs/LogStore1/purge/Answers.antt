@@ -1,8 +1,8 @@
 use Rattle.std.proofs.Common.{ap, ◌∙◌}
-use Rattle.log.specs.Logs.{log_view, log_within}
-use Rattle.log.proofs.Marks.{live_marked}
-use Rattle.log.proofs.Costs.{mark_answer, mark_after, mark_bounds, mark_cost}
-use Rattle.log.proofs.LogStore1.purge.Goals as goal
+use Rattle.entry_log.specs.Logs.{log_view, log_within}
+use Rattle.entry_log.proofs.Marks.{live_marked}
+use Rattle.entry_log.proofs.Costs.{mark_answer, mark_after, mark_bounds, mark_cost}
+use Rattle.entry_log.proofs.LogStore1.purge.Goals as goal
 
 pub returns : goal.returns
 returns c =

@@ -1,8 +1,8 @@
 use Rattle.std.proofs.Common.{◌≡◌, ℕ, ◌+◌, List, length, drop, arith, length-drop}
 use Rattle.model.specs.declared.Entry.{Entry}
-use Rattle.log.specs.Logs.{live_short}
-use Rattle.log.proofs.Backwards.{at_end, back_purged, back_taken, back_noted}
-use Rattle.log.proofs.records.live_count.Goals as goal
+use Rattle.entry_log.specs.Logs.{live_short}
+use Rattle.entry_log.proofs.Backwards.{at_end, back_purged, back_taken, back_noted}
+use Rattle.entry_log.proofs.records.live_count.Goals as goal
 
 abbrev Counted : ℕ → List Entry → Type 0
 Counted n es = n ≡ length es
@@ -15,8 +15,8 @@ loop-i-preserved-in-Purged c =
     back_purged c.args.records.now _ _ c.loop-i-test.true c.loop-i.auto.i (Counted c.loop-i.count) _ c.loop-i.invariant.0
     _ _ c.union-gone.ensures.members c.in-Purged.is c.loop-i.invariant.1
 
-pub overflow-add-count : goal.overflow-add-count
-overflow-add-count c =
+pub overflow_add-count : goal.overflow_add-count
+overflow_add-count c =
     let rs = c.args.records.now in
     omega (arith, c.loop-i.invariant.1, live_short (drop c.loop-i.i rs), length-drop c.loop-i.i rs)
 

@@ -1,0 +1,11 @@
+-- How a refusal of a call on a case is told. Assumes nothing.
+use Rattle.std.specs.Prelude.{Some}
+use Rattle.model.specs.declared.refusal.Reason.{Reason}
+use Rattle.model.specs.Refusals.{reason, case_reason}
+use Rattle.lives.specs.declared.CallRefusal.{CallRefusal}
+use Rattle.lives.specs.declared.CallRefusal.TheVariants as call
+
+-- Layer 7 is the store; the others are told as on paper.
+abbrev pub call_reason : CallRefusal → Reason
+call_reason (call.Case refusal) = case_reason refusal
+call_reason (call.Store place id) = reason 40 7 place (Some id)
