@@ -1,5 +1,5 @@
 -- What an accepted again comes to, by the set of ids that was purged. Assumes nothing.
-use Rattle.std.proofs.Common.{◌≡◌, ℕ, ◌+◌, ◌≤◌, Bool, true, false, cond, not, ltb, List, [], ◌∷◌, length, Ok, Err, filter, Result, sym, refl, ap, ◌∙◌, subst, arith}
+use Rattle.std.proofs.Common.{◌≡◌, ℕ, ◌+◌, ◌≤◌, Bool, true, false, cond, not, ltb, List, [], ◌∷◌, length, Ok, Result, sym, refl, ap, ◌∙◌, subst, arith}
 use Rattle.std.proofs.lemmas.Bool.{ltb-false}
 use Rattle.ids.specs.declared.IdSet.{IdSet}
 use Rattle.ids.specs.Sets.{has}
@@ -14,7 +14,7 @@ use Rattle.history.specs.Entries.{kept}
 use Rattle.history.specs.Stores.{StoreView, refusal, purge_answer, purged, PurgeBounds}
 use Rattle.rounds.specs.Rounds.{in_round, outside}
 use Rattle.lives.specs.Views.{CaseView, in_progress}
-use Rattle.lives.specs.Calls.{Outcome, accepted, dropped, by_purge, by_test, again_outcome}
+use Rattle.lives.specs.Calls.{accepted, dropped, by_purge, by_test, again_outcome}
 use Rattle.lives.specs.Lives.{Leaves}
 
 kept_outside : (ids : IdSet) (es : List Entry) → kept ids es ≡ outside (has ids) es

@@ -1,6 +1,6 @@
 -- Bytes three by three: how many entries there are, what stands in each, and back again.
 use Rattle.std.proofs.Common.{◌≡◌, ℕ, zero, suc, ◌+◌, ◌*◌, ◌/◌, ◌<◌, List, [], ◌∷◌, length, get_or, Some, refl, ap, arith}
-use Rattle.std.specs.List.{AllByRecursion as All, slice_get}
+use Rattle.std.specs.List.{AllByRecursion, slice_get}
 use Rattle.record.specs.Hex.{Byte}
 use Rattle.case_record.specs.declared.RawEntry.{RawEntry}
 use Rattle.case_record.specs.Entries.{entry_of, entries_in, entry_bytes, Threefold}
@@ -44,12 +44,12 @@ pub length_entry_bytes : (es : List RawEntry) → length (entry_bytes es) ≡ 3 
 length_entry_bytes [] = refl
 length_entry_bytes (e ∷ es) = omega (arith, length_entry_bytes es)
 
-pub all_entries : (bs : List ℕ) → All Byte bs → All ByteEntry (entries_in bs)
+pub all_entries : (bs : List ℕ) → AllByRecursion Byte bs → AllByRecursion ByteEntry (entries_in bs)
 all_entries [] h = tt
 all_entries (k ∷ []) h = tt
 all_entries (k ∷ i ∷ []) h = tt
 all_entries (k ∷ i ∷ b ∷ bs) h = ((h.0, h.1.0, h.1.1.0), all_entries bs h.1.1.1)
 
-pub all_entry_bytes : (es : List RawEntry) → All ByteEntry es → All Byte (entry_bytes es)
+pub all_entry_bytes : (es : List RawEntry) → AllByRecursion ByteEntry es → AllByRecursion Byte (entry_bytes es)
 all_entry_bytes [] h = tt
 all_entry_bytes (e ∷ es) h = (h.0.0, (h.0.1, (h.0.2, all_entry_bytes es h.1)))

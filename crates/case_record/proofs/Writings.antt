@@ -1,6 +1,6 @@
 -- Reading a case record inverts its writing.
 use Rattle.std.proofs.Common.{◌≡◌, ℕ, ◌*◌, ◌/◌, ◌%◌, ◌<◌, Bool, true, false, cond, ◌&&◌, eqb, List, [], ◌∷◌, length, Some, None, Option, sym, refl, ap, ◌∙◌, subst, arith}
-use Rattle.std.specs.List.{AllByRecursion as All}
+use Rattle.std.specs.List.{AllByRecursion}
 use Rattle.std.proofs.lemmas.Bool.{and_parts, eqb-true, eq-eqb}
 use Rattle.record.specs.Hex.{Byte, hex, decoded}
 use Rattle.record.proofs.Inverses.{never, decoding_inverts_hex}
@@ -10,7 +10,7 @@ use Rattle.case_record.specs.Laws.{LineOf, ReadingInvertsWriting}
 use Rattle.case_record.proofs.Triples.{threefold, count_entries, entries_in_bytes, bytes_of_entries, length_entry_bytes, all_entries, all_entry_bytes}
 
 -- the parts of a record, put together again
-written : (n3 n2 n1 n0 hi lo : ℕ) (rest : List ℕ) → n3 < 256 → n2 < 256 → n1 < 256 → n0 < 256 → hi < 256 → lo < 256 → All Byte rest →
+written : (n3 n2 n1 n0 hi lo : ℕ) (rest : List ℕ) → n3 < 256 → n2 < 256 → n1 < 256 → n0 < 256 → hi < 256 → lo < 256 → AllByRecursion Byte rest →
     length rest ≡ 3 * count_of hi lo →
     Writing (3 ∷ n3 ∷ n2 ∷ n1 ∷ n0 ∷ hi ∷ lo ∷ rest) (record { number = number_of n3 n2 n1 n0; entries = entries_in rest })
 written n3 n2 n1 n0 hi lo rest b3 b2 b1 b0 bh bl all long =
@@ -25,7 +25,7 @@ written n3 n2 n1 n0 hi lo rest b3 b2 b1 b0 bh bl all long =
     let same : 3 ∷ n3 ∷ n2 ∷ n1 ∷ n0 ∷ hi ∷ lo ∷ rest ≡ case_bytes (record { number = number_of n3 n2 n1 n0; entries = entries_in rest }) = cc in
     (record { number = omega arith; few = omega arith; entries = all_entries rest all }, same)
 
-pub written_from_read : (bs : List ℕ) (c : RawCase) → All Byte bs → read_case bs ≡ Some c → Writing bs c
+pub written_from_read : (bs : List ℕ) (c : RawCase) → AllByRecursion Byte bs → read_case bs ≡ Some c → Writing bs c
 written_from_read [] c all e = never e
 written_from_read (t ∷ []) c all e = never e
 written_from_read (t ∷ n3 ∷ []) c all e = never e
@@ -51,7 +51,7 @@ read_from_written c =
     let long : length (entry_bytes c.entries) ≡ 3 * count_of (length c.entries / 256) (length c.entries % 256) = omega (arith, length_entry_bytes c.entries) in
     rw (eq-eqb _ _ long, number, entries_in_bytes c.entries)
 
-bytes_of_written : (c : RawCase) → Writable c → All Byte (case_bytes c)
+bytes_of_written : (c : RawCase) → Writable c → AllByRecursion Byte (case_bytes c)
 bytes_of_written c w =
     let third : c.number / 16777216 < 256 = omega (arith, w.number) in
     let high : length c.entries / 256 < 256 = omega (arith, w.few) in

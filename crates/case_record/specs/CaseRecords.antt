@@ -1,6 +1,6 @@
 -- A case record: what it says, its writing and its reading.
 use Rattle.std.specs.Prelude.{◌≡◌, ℕ, ◌+◌, ◌*◌, ◌/◌, ◌%◌, ◌^◌, ◌<◌, cond, ◌&&◌, List, [], ◌∷◌, length, Some, None, Option, ◌==◌}
-use Rattle.std.specs.List.{AllByRecursion as All}
+use Rattle.std.specs.List.{AllByRecursion}
 use Rattle.record.specs.Hex.{Byte, hex, decoded}
 use Rattle.case_record.specs.declared.RawEntry.{RawEntry}
 use Rattle.case_record.specs.Entries.{entries_in, entry_bytes}
@@ -28,7 +28,7 @@ ByteEntry e = Byte e.kind × Byte e.id × Byte e.branch
 pub record Writable (c : RawCase) : Type 0 where
   pub number : c.number < 2 ^ 32
   pub few : length c.entries < 65536
-  pub entries : All ByteEntry c.entries
+  pub entries : AllByRecursion ByteEntry c.entries
 
 -- the bytes are the writing of what they say
 abbrev pub Writing : List ℕ → RawCase → Type 0

@@ -1,5 +1,5 @@
 -- What a store holds after a call, put together from its list and its places. Assumes nothing.
-use Rattle.std.proofs.Common.{◌≡◌, ℕ, ◌+◌, ◌-◌, ◌≤◌, Bool, true, false, cond, not, eqb, List, [], ◌∷◌, ◌++◌, length, Ok, Result, sym, refl, ◌∙◌, arith}
+use Rattle.std.proofs.Common.{◌≡◌, ℕ, ◌-◌, ◌≤◌, Bool, true, false, cond, not, eqb, List, [], ◌∷◌, ◌++◌, length, Ok, Result, sym, refl, ◌∙◌, arith}
 use Rattle.std.proofs.lemmas.Bool.{eqb-true, le-ltb, cond-false}
 use Rattle.std.proofs.lemmas.List.Filters.{length-filter_both}
 use Rattle.ids.specs.declared.IdSet.{IdSet}

@@ -1,30 +1,29 @@
 -- What every life keeps. Assumes nothing.
-use Rattle.std.proofs.Common.{◌≡◌, ℕ, ◌+◌, ◌<◌, ◌≤◌, Bool, true, false, cond, ltb, List, [], ◌∷◌, ◌++◌, length, set, Some, None, Ok, Err, Option, Result, sym, refl, ap, ◌∙◌, subst, arith}
+use Rattle.std.proofs.Common.{◌≡◌, ℕ, ◌<◌, ◌≤◌, Bool, true, false, cond, ltb, List, [], ◌∷◌, ◌++◌, set, Some, None, Ok, Err, Option, Result, sym, refl, ap, ◌∙◌, subst, arith}
 use Rattle.std.proofs.lemmas.Bool.{ltb-false, le-ltb}
 use Rattle.model.specs.declared.Entry.{Entry}
 use Rattle.model.specs.declared.Entry.TheVariants.{Leave}
 use Rattle.model.specs.declared.Fact.{Fact}
 use Rattle.model.specs.declared.refusal.StepRefusal.{StepRefusal}
 use Rattle.lives.specs.declared.CallRefusal.{CallRefusal}
-use Rattle.facts.specs.Facts.{reset}
 use Rattle.schema.specs.Checks.{SchemaParts, Admitted}
 use Rattle.case_record.specs.CaseRecords.{RawCase, case_in}
 use Rattle.case_record.proofs.Writings.{reading_inverts_writing}
 use Rattle.runs.specs.Steps.{Allowed, Runs, ends, steps, step_in}
 use Rattle.runs.proofs.Allows.{allowed_step, step_allowed}
 use Rattle.runs.proofs.RunTold.{runs_last}
-use Rattle.agreement.specs.Laws.{no_facts, facts_after}
+use Rattle.agreement.specs.Laws.{no_facts}
 use Rattle.agreement.proofs.FactsAfter.{after_entries}
-use Rattle.history.specs.Stores.{refusal, cleared, purge_answer}
+use Rattle.history.specs.Stores.{refusal, cleared}
 use Rattle.rounds.specs.Rounds.{in_round, outside}
 use Rattle.rounds.proofs.DroppedRounds.{finished_dropped}
 use Rattle.lives.specs.Offers.{offers}
 use Rattle.lives.specs.Views.{CaseView}
-use Rattle.lives.specs.Calls.{Outcome, Held, held, opened, entered, by_held, step_outcome, by_purge, by_test, again_outcome, entries_taken, by_entries, by_record, load_outcome}
+use Rattle.lives.specs.Calls.{Held, held, opened, entered, by_held, step_outcome, by_purge, by_test, again_outcome, entries_taken, by_entries, by_record, load_outcome}
 use Rattle.lives.specs.Lives.{Life, opens, loads, repeats, if_accepted, entries_read, record_entries, line_entries, loaded_history, stepped_history, repeated_history}
 use Rattle.lives.specs.Lives as life
-use Rattle.lives.specs.Laws.{HistoryRuns, InStep, StepsHaveCause, AgainsHaveCause, Loadable, LoadsHaveCause, LivesKeepTheirPromises}
-use Rattle.lives.proofs.Entering.{Entered, was_entered, can_enter, Taken, were_taken, can_take}
+use Rattle.lives.specs.Laws.{HistoryRuns, StepsHaveCause, AgainsHaveCause, Loadable, LoadsHaveCause, LivesKeepTheirPromises}
+use Rattle.lives.proofs.Entering.{was_entered, can_enter, were_taken, can_take}
 
 -- a run parts before its last entry
 runs_parted : {S : SchemaParts} {gs : List Fact} (es : List Entry) (e : Entry) (fs : List Fact) → Runs S fs (es ++ e ∷ []) gs → (ms : List Fact) × Runs S fs es ms × Allowed S ms e

@@ -4,7 +4,7 @@
 --   step_outcome e v        start, finish, choose and leave: e is the entry
 --   again_outcome c i f v   one more round of the loop of test i, where a purge costs c places and leaves f free
 --   load_outcome line v     the case that a line writes
-use Rattle.std.specs.Prelude.{ℕ, ◌+◌, List, [], ◌∷◌, replicate, Some, None, Ok, Err, Option, Result}
+use Rattle.std.specs.Prelude.{ℕ, ◌+◌, List, [], ◌∷◌, Some, None, Ok, Err, Option, Result}
 use Rattle.model.specs.declared.Entry.{Entry}
 use Rattle.model.specs.declared.Entry.TheVariants.{Leave}
 use Rattle.model.specs.declared.Fact.{Fact}

@@ -1,9 +1,8 @@
 -- What holds of every life of every case, over every store and worklist that keep their meaning. Assumes nothing.
-use Rattle.std.specs.Prelude.{◌≡◌, ℕ, ◌+◌, ◌<◌, ◌≤◌, Bool, ◌↔◌, List, [], ◌∷◌, ◌++◌, length, Ok}
+use Rattle.std.specs.Prelude.{◌≡◌, ℕ, ◌<◌, ◌≤◌, ◌↔◌, List, [], ◌∷◌, ◌++◌, length, Ok}
 use Rattle.model.specs.declared.Entry.{Entry}
 use Rattle.model.specs.declared.Entry.TheVariants.{Leave}
 use Rattle.model.specs.declared.Fact.{Fact}
-use Rattle.schema.specs.Checks.{SchemaParts}
 use Rattle.case_record.specs.CaseRecords.{RawCase}
 use Rattle.case_record.specs.Laws.{LineOf}
 use Rattle.runs.specs.Steps.{Allowed, Runs}

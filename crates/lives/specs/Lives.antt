@@ -4,12 +4,12 @@ use Rattle.std.specs.Prelude.{◌≡◌, ℕ, ◌+◌, ◌≤◌, List, [], ◌�
 use Rattle.model.specs.declared.Entry.{Entry}
 use Rattle.lives.specs.declared.CallRefusal.{CallRefusal}
 use Rattle.model.specs.Entries.{entry_read}
-use Rattle.schema.specs.Checks.{SchemaParts, Admitted}
+use Rattle.schema.specs.Checks.{Admitted}
 use Rattle.case_record.specs.declared.RawEntry.{RawEntry}
 use Rattle.case_record.specs.CaseRecords.{RawCase, case_in}
 use Rattle.rounds.specs.Rounds.{in_round, outside}
 use Rattle.lives.specs.Views.{CaseView}
-use Rattle.lives.specs.Calls.{Outcome, opened, step_outcome, again_outcome, load_outcome}
+use Rattle.lives.specs.Calls.{opened, step_outcome, again_outcome, load_outcome}
 
 -- The history after a call: it changes only where the call is accepted.
 abbrev pub if_accepted : Result (Unit {0}) CallRefusal → List Entry → List Entry → List Entry

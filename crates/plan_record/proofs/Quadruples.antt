@@ -1,6 +1,6 @@
 -- Bytes four by four: how many changes there are, what stands in each, and back again.
 use Rattle.std.proofs.Common.{◌≡◌, ℕ, zero, suc, ◌+◌, ◌*◌, ◌/◌, ◌<◌, List, [], ◌∷◌, length, get_or, Some, refl, ap, arith}
-use Rattle.std.specs.List.{AllByRecursion as All, slice_get}
+use Rattle.std.specs.List.{AllByRecursion, slice_get}
 use Rattle.record.specs.Hex.{Byte}
 use Rattle.plan_record.specs.declared.RawChange.{RawChange}
 use Rattle.plan_record.specs.Changes.{change_of, changes_in, change_bytes, Fourfold}
@@ -48,13 +48,13 @@ pub length_change_bytes : (xs : List RawChange) → length (change_bytes xs) ≡
 length_change_bytes [] = refl
 length_change_bytes (x ∷ xs) = omega (arith, length_change_bytes xs)
 
-pub all_changes : (bs : List ℕ) → All Byte bs → All ByteChange (changes_in bs)
+pub all_changes : (bs : List ℕ) → AllByRecursion Byte bs → AllByRecursion ByteChange (changes_in bs)
 all_changes [] h = tt
 all_changes (k ∷ []) h = tt
 all_changes (k ∷ a ∷ []) h = tt
 all_changes (k ∷ a ∷ b ∷ []) h = tt
 all_changes (k ∷ a ∷ b ∷ c ∷ bs) h = ((h.0, h.1.0, h.1.1.0, h.1.1.1.0), all_changes bs h.1.1.1.1)
 
-pub all_change_bytes : (xs : List RawChange) → All ByteChange xs → All Byte (change_bytes xs)
+pub all_change_bytes : (xs : List RawChange) → AllByRecursion ByteChange xs → AllByRecursion Byte (change_bytes xs)
 all_change_bytes [] h = tt
 all_change_bytes (x ∷ xs) h = (h.0.0, (h.0.1, (h.0.2, (h.0.3, all_change_bytes xs h.1))))

@@ -1,6 +1,6 @@
 -- Reading a plan record inverts its writing.
 use Rattle.std.proofs.Common.{◌≡◌, ℕ, ◌*◌, ◌<◌, Bool, true, false, cond, ◌&&◌, eqb, List, [], ◌∷◌, length, Some, None, Option, sym, refl, ap, ◌∙◌, subst, arith}
-use Rattle.std.specs.List.{AllByRecursion as All}
+use Rattle.std.specs.List.{AllByRecursion}
 use Rattle.std.proofs.lemmas.Bool.{and_parts, eqb-true, eq-eqb}
 use Rattle.record.specs.Hex.{Byte, hex, decoded}
 use Rattle.record.proofs.Inverses.{never, decoding_inverts_hex}
@@ -10,7 +10,7 @@ use Rattle.plan_record.specs.Laws.{LineOf, ReadingInvertsWriting}
 use Rattle.plan_record.proofs.Quadruples.{fourfold, count_changes, changes_in_bytes, bytes_of_changes, length_change_bytes, all_changes, all_change_bytes}
 
 -- the parts of a record, put together again
-written : (n : ℕ) (rest : List ℕ) → n < 256 → All Byte rest → length rest ≡ 4 * n →
+written : (n : ℕ) (rest : List ℕ) → n < 256 → AllByRecursion Byte rest → length rest ≡ 4 * n →
     Writing (2 ∷ n ∷ rest) (record { changes = changes_in rest })
 written n rest small all long =
     let count : n ≡ length (changes_in rest) = sym (count_changes rest n long) in
@@ -18,7 +18,7 @@ written n rest small all long =
     let same : 2 ∷ n ∷ rest ≡ plan_bytes (record { changes = changes_in rest }) = cc in
     (record { few = omega arith; changes = all_changes rest all }, same)
 
-pub written_from_read : (bs : List ℕ) (p : RawPlan) → All Byte bs → read_plan bs ≡ Some p → Writing bs p
+pub written_from_read : (bs : List ℕ) (p : RawPlan) → AllByRecursion Byte bs → read_plan bs ≡ Some p → Writing bs p
 written_from_read [] p all e = never e
 written_from_read (t ∷ []) p all e = never e
 written_from_read (t ∷ n ∷ rest) p all e = go (eqb t 2 && eqb (length rest) (4 * n)) refl e
@@ -34,7 +34,7 @@ written_from_read (t ∷ n ∷ rest) p all e = go (eqb t 2 && eqb (length rest) 
 pub read_from_written : (p : RawPlan) → read_plan (plan_bytes p) ≡ Some p
 read_from_written p = rw (eq-eqb _ _ (length_change_bytes p.changes), changes_in_bytes p.changes)
 
-bytes_of_written : (p : RawPlan) → Writable p → All Byte (plan_bytes p)
+bytes_of_written : (p : RawPlan) → Writable p → AllByRecursion Byte (plan_bytes p)
 bytes_of_written p w = (omega arith, (w.few, all_change_bytes p.changes w.changes))
 
 pub reading_inverts_writing : ReadingInvertsWriting

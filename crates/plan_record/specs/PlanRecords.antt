@@ -1,6 +1,6 @@
 -- A plan record: what it says, its writing and its reading.
 use Rattle.std.specs.Prelude.{◌≡◌, ℕ, ◌*◌, ◌<◌, cond, ◌&&◌, List, [], ◌∷◌, length, Some, None, Option, ◌==◌}
-use Rattle.std.specs.List.{AllByRecursion as All}
+use Rattle.std.specs.List.{AllByRecursion}
 use Rattle.record.specs.Hex.{Byte, hex, decoded}
 use Rattle.plan_record.specs.declared.RawChange.{RawChange}
 use Rattle.plan_record.specs.Changes.{changes_in, change_bytes}
@@ -24,7 +24,7 @@ ByteChange x = Byte x.kind × Byte x.a × Byte x.b × Byte x.c
 -- what its fields have room for
 pub record Writable (p : RawPlan) : Type 0 where
   pub few : length p.changes < 256
-  pub changes : All ByteChange p.changes
+  pub changes : AllByRecursion ByteChange p.changes
 
 -- the bytes are the writing of what they say
 abbrev pub Writing : List ℕ → RawPlan → Type 0

@@ -1,6 +1,6 @@
 -- Decoding inverts the spelling in hexadecimal.
 use Rattle.std.proofs.Common.{◌≡◌, ℕ, ◌+◌, ◌*◌, ◌/◌, ◌%◌, ◌<◌, ◌≤◌, Bool, true, false, cond, ◌||◌, eqb, ltb, List, [], ◌∷◌, length, Some, None, Option, refl, ap, ◌∙◌, subst, arith}
-use Rattle.std.specs.List.{AllByRecursion as All}
+use Rattle.std.specs.List.{AllByRecursion}
 use Rattle.std.proofs.lemmas.Bool.{or_parts, eqb-false, ltb-false}
 use Rattle.std.proofs.lemmas.Bool.Decides.{nat_tests}
 use Rattle.record.specs.Hex.{Byte, Spelling, digit, hex, digit_value, joint, begun, byte_of, spelled, decoded}
@@ -35,18 +35,18 @@ spelling_of_byte h l b e = go (digit_value h) refl (digit_value l) refl e
         let low : y ≡ b % 16 = omega (arith, dx.0, dy.0) in
         (omega (arith, dx.0, dy.0), dx.1 ∙ ap digit high, dy.1 ∙ ap digit low)
 
-pub spelled_hex : (bs : List ℕ) → All Byte bs → spelled (hex bs) ≡ Some bs
+pub spelled_hex : (bs : List ℕ) → AllByRecursion Byte bs → spelled (hex bs) ≡ Some bs
 spelled_hex [] h = refl
 spelled_hex (b ∷ bs) h = rw (byte_spelled b h.0, spelled_hex bs h.1)
 
-pub hex_from_spelled : (cs bs : List ℕ) → spelled cs ≡ Some bs → All Byte bs × (cs ≡ hex bs)
+pub hex_from_spelled : (cs bs : List ℕ) → spelled cs ≡ Some bs → AllByRecursion Byte bs × (cs ≡ hex bs)
 hex_from_spelled [] bs e =
     let q : [] ≡ bs = cc in
-    subst (λ (xs : List ℕ). All Byte xs × ([] ≡ hex xs)) q (tt, refl)
+    subst (λ (xs : List ℕ). AllByRecursion Byte xs × ([] ≡ hex xs)) q (tt, refl)
 hex_from_spelled (c ∷ []) bs e = never e
 hex_from_spelled (h ∷ l ∷ rest) bs e = go (byte_of h l) refl (spelled rest) refl e (λ ds. hex_from_spelled rest ds)
   where
-    go : (o : Option ℕ) → byte_of h l ≡ o → (p : Option (List ℕ)) → spelled rest ≡ p → begun o p ≡ Some bs → ((ds : List ℕ) → spelled rest ≡ Some ds → All Byte ds × (rest ≡ hex ds)) → All Byte bs × (h ∷ l ∷ rest ≡ hex bs)
+    go : (o : Option ℕ) → byte_of h l ≡ o → (p : Option (List ℕ)) → spelled rest ≡ p → begun o p ≡ Some bs → ((ds : List ℕ) → spelled rest ≡ Some ds → AllByRecursion Byte ds × (rest ≡ hex ds)) → AllByRecursion Byte bs × (h ∷ l ∷ rest ≡ hex bs)
     go None eb p ep j ih = never j
     go (Some b) eb None ep j ih = never j
     go (Some b) eb (Some ds) ep j ih =
@@ -57,7 +57,7 @@ hex_from_spelled (h ∷ l ∷ rest) bs e = go (byte_of h l) refl (spelled rest) 
         let e2 = here.2 in
         let e3 = there.1 in
         let same : h ∷ l ∷ rest ≡ hex (b ∷ ds) = cc in
-        subst (λ xs. All Byte xs × (h ∷ l ∷ rest ≡ hex xs)) q ((here.0, there.0), same)
+        subst (λ xs. AllByRecursion Byte xs × (h ∷ l ∷ rest ≡ hex xs)) q ((here.0, there.0), same)
 
 pub length_hex : (bs : List ℕ) → length (hex bs) ≡ 2 * length bs
 length_hex [] = refl

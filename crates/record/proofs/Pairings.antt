@@ -1,6 +1,6 @@
 -- Bytes two by two: how many pairs there are, what stands in each, and back again.
 use Rattle.std.proofs.Common.{◌≡◌, ℕ, zero, suc, ◌+◌, ◌*◌, ◌/◌, ◌<◌, List, [], ◌∷◌, length, get_or, Some, refl, ap, arith}
-use Rattle.std.specs.List.{AllByRecursion as All, slice_get}
+use Rattle.std.specs.List.{AllByRecursion, slice_get}
 use Rattle.record.specs.Pairs.{pairs, unpaired, Paired}
 use Rattle.record.specs.SchemaRecords.{BytePair}
 
@@ -37,11 +37,11 @@ pub length_unpaired : (ps : List (ℕ × ℕ)) → length (unpaired ps) ≡ 2 * 
 length_unpaired [] = refl
 length_unpaired (p ∷ ps) = omega (arith, length_unpaired ps)
 
-pub all_pairs : (bs : List ℕ) → All (λ b. b < 256) bs → All BytePair (pairs bs)
+pub all_pairs : (bs : List ℕ) → AllByRecursion (λ b. b < 256) bs → AllByRecursion BytePair (pairs bs)
 all_pairs [] h = tt
 all_pairs (b ∷ []) h = tt
 all_pairs (b ∷ c ∷ bs) h = ((h.0, h.1.0), all_pairs bs h.1.1)
 
-pub all_unpaired : (ps : List (ℕ × ℕ)) → All BytePair ps → All (λ b. b < 256) (unpaired ps)
+pub all_unpaired : (ps : List (ℕ × ℕ)) → AllByRecursion BytePair ps → AllByRecursion (λ b. b < 256) (unpaired ps)
 all_unpaired [] h = tt
 all_unpaired (p ∷ ps) h = (h.0.0, (h.0.1, all_unpaired ps h.1))

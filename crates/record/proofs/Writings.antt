@@ -1,6 +1,6 @@
 -- Reading a schema record inverts its writing.
 use Rattle.std.proofs.Common.{◌≡◌, ℕ, ◌+◌, ◌*◌, ◌/◌, ◌%◌, ◌<◌, ◌≤◌, Bool, true, false, cond, ◌&&◌, eqb, leb, List, [], ◌∷◌, ◌++◌, length, take, drop, Some, None, Option, sym, refl, ap, ◌∙◌, subst, arith}
-use Rattle.std.specs.List.{AllByRecursion as All}
+use Rattle.std.specs.List.{AllByRecursion}
 use Rattle.std.proofs.ByRecursion.{All-append, All-take, All-drop}
 use Rattle.std.proofs.lemmas.List.{take_at, drop_at, take-append-drop, length-append, length-take-le}
 use Rattle.std.proofs.lemmas.Bool.{and_parts, cond-true, eqb-true, eq-eqb, leb-true, le-leb}
@@ -22,7 +22,7 @@ edges_inverse (m ∷ ys) es e = go (eqb (length ys) (2 * m)) refl e
         (m, ap (λ zs. m ∷ zs) q, sym (ap length q) ∙ eqb-true _ _ eb)
 
 -- the parts of a record, put together again
-written : (hi lo m n : ℕ) (rest es : List ℕ) → hi < 256 → lo < 256 → n < 256 → All Byte rest →
+written : (hi lo m n : ℕ) (rest es : List ℕ) → hi < 256 → lo < 256 → n < 256 → AllByRecursion Byte rest →
     2 * n ≤ length rest → drop (2 * n) rest ≡ m ∷ es → length es ≡ 2 * m →
     Writing (1 ∷ hi ∷ lo ∷ n ∷ rest) (record { version = hi * 256 + lo; elements = pairs (take (2 * n) rest); edges = pairs es })
 written hi lo m n rest es bh bl bn all room back long =
@@ -34,7 +34,7 @@ written hi lo m n rest es bh bl bn all room back long =
     let second : m ≡ length (pairs es) = sym (count_pairs es m long) in
     let front : xs ≡ unpaired (pairs xs) = sym (unpaired_pairs xs (paired xs n size)) in
     let end : es ≡ unpaired (pairs es) = sym (unpaired_pairs es (paired es m long)) in
-    let last : All Byte (m ∷ es) = subst (All Byte) back (All-drop Byte (2 * n) rest all) in
+    let last : AllByRecursion Byte (m ∷ es) = subst (AllByRecursion Byte) back (All-drop Byte (2 * n) rest all) in
     let whole : rest ≡ xs ++ (m ∷ es) = sym (take-append-drop (2 * n) rest) ∙ ap (λ zs. xs ++ zs) back in
     let tail : rest ≡ unpaired (pairs xs) ++ (length (pairs es) ∷ unpaired (pairs es)) = cc in
     let same : 1 ∷ hi ∷ lo ∷ n ∷ rest ≡ schema_bytes (record { version = hi * 256 + lo; elements = pairs xs; edges = pairs es }) = cc in (
@@ -48,7 +48,7 @@ written hi lo m n rest es bh bl bn all room back long =
       same,
     )
 
-pub written_from_read : (bs : List ℕ) (s : RawSchema) → All Byte bs → read_schema bs ≡ Some s → Writing bs s
+pub written_from_read : (bs : List ℕ) (s : RawSchema) → AllByRecursion Byte bs → read_schema bs ≡ Some s → Writing bs s
 written_from_read [] s all e = never e
 written_from_read (t ∷ []) s all e = never e
 written_from_read (t ∷ hi ∷ []) s all e = never e
@@ -82,7 +82,7 @@ read_from_written s =
     let edges : edges_in ys ≡ Some (unpaired s.edges) = cond-true (eqb (length (unpaired s.edges)) (2 * length s.edges)) _ _ (eq-eqb _ _ (length_unpaired s.edges)) in
     rw (le-leb _ _ room, front, back, edges, version, pairs_unpaired s.elements, pairs_unpaired s.edges)
 
-bytes_of_written : (s : RawSchema) → Writable s → All Byte (schema_bytes s)
+bytes_of_written : (s : RawSchema) → Writable s → AllByRecursion Byte (schema_bytes s)
 bytes_of_written s w = (
   omega arith,
   (

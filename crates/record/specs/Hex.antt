@@ -1,6 +1,6 @@
 -- Bytes and the characters that spell them: upper-case hexadecimal, two characters a byte.
 use Rattle.std.specs.Prelude.{◌≡◌, ℕ, ◌+◌, ◌-◌, ◌*◌, ◌/◌, ◌%◌, ◌<◌, ◌≤◌, cond, ◌&&◌, ◌||◌, List, [], ◌∷◌, ◌++◌, length, Some, None, Option, ◌==◌, nat_le, nat_lt}
-use Rattle.std.specs.List.{AllByRecursion as All}
+use Rattle.std.specs.List.{AllByRecursion}
 
 -- the character of a value below 16: `0` to `9`, then `A` to `F`
 abbrev pub digit : ℕ → ℕ
@@ -17,7 +17,7 @@ hex (b ∷ bs) = digit (b / 16) ∷ digit (b % 16) ∷ hex bs
 
 -- the line spells these bytes, which are some, and is no longer than a line may be
 abbrev pub Spelling : List ℕ → List ℕ → Type 0
-Spelling line bs = All Byte bs × (0 < length bs) × (length line ≤ 1024) × (line ≡ hex bs)
+Spelling line bs = AllByRecursion Byte bs × (0 < length bs) × (length line ≤ 1024) × (line ≡ hex bs)
 
 -- the value of a character, if it is one of `0` to `9` and `A` to `F`
 abbrev pub digit_value : ℕ → Option ℕ

@@ -1,6 +1,6 @@
 -- A schema record: what it says, its writing and its reading.
 use Rattle.std.specs.Prelude.{◌≡◌, ℕ, ◌+◌, ◌*◌, ◌/◌, ◌%◌, ◌<◌, cond, ◌&&◌, List, [], ◌∷◌, ◌++◌, length, take, drop, Some, None, Option, ◌==◌, nat_le}
-use Rattle.std.specs.List.{AllByRecursion as All}
+use Rattle.std.specs.List.{AllByRecursion}
 use Rattle.record.specs.Hex.{Byte, hex, decoded}
 use Rattle.record.specs.Pairs.{pairs, unpaired}
 
@@ -29,8 +29,8 @@ pub record Writable (s : RawSchema) : Type 0 where
   pub version : s.version < 65536
   pub few_elements : length s.elements < 256
   pub few_edges : length s.edges < 256
-  pub elements : All BytePair s.elements
-  pub edges : All BytePair s.edges
+  pub elements : AllByRecursion BytePair s.elements
+  pub edges : AllByRecursion BytePair s.edges
 
 -- the bytes are the writing of what they say
 abbrev pub Writing : List ℕ → RawSchema → Type 0

@@ -1,6 +1,6 @@
+use entry_log::{Log, LogRecord};
 use history::{EntryKind, Store, comes_before, is_of};
 use ids::IdSet;
-use entry_log::{Log, LogRecord};
 use model::Entry;
 use std::process::Abort;
 use table::CompactedTable;

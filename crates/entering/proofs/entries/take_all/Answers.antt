@@ -1,9 +1,9 @@
-use Rattle.std.proofs.Common.{◌≡◌, ℕ, ◌≤◌, length, sym, refl, ap, ◌∙◌, subst, arith}
+use Rattle.std.proofs.Common.{◌≤◌, length, refl, ap, ◌∙◌, arith}
 use Rattle.std.proofs.lemmas.List.{at_drop_all}
 use Rattle.case_record.specs.Entries.{entries_in, zeros}
 use Rattle.facts.specs.Facts.{facts_by_id}
 use Rattle.schema.specs.Schemas.{parts}
-use Rattle.lives.specs.Calls.{Held, held, entries_taken}
+use Rattle.lives.specs.Calls.{held, entries_taken}
 use Rattle.lives.proofs.Entering.{taken_at, taken_capacity}
 use Rattle.entering.proofs.entries.take_all.Goals as goal
 

@@ -1,4 +1,4 @@
-use Rattle.std.proofs.Common.{◌≡◌, ℕ, ◌<◌, ◌≤◌, Bool, true, ◌&&◌, ◌||◌, length, get_or, take, None, sym, refl, ap, ◌∙◌, subst, ap₂, arith}
+use Rattle.std.proofs.Common.{◌≡◌, ◌<◌, ◌≤◌, true, ◌&&◌, ◌||◌, length, get_or, take, None, sym, ap, ◌∙◌, subst, ap₂}
 use Rattle.std.proofs.lemmas.List.{take_all}
 use Rattle.model.specs.declared.Element.TheVariants.{Activity, AndSplit}
 use Rattle.model.specs.Rows.{Bears}

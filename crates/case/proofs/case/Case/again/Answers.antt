@@ -1,8 +1,7 @@
-use Rattle.std.proofs.Common.{◌≡◌, ℕ, List, Ok, sym, ap, ◌∙◌, subst, ap₂}
+use Rattle.std.proofs.Common.{◌≡◌, ℕ, List, sym, ap, ◌∙◌, subst, ap₂}
 use mathlib.Core.Path.{fun_ext}
 use Rattle.ids.specs.Sets.{has}
 use Rattle.model.specs.declared.Fact.{Fact}
-use Rattle.facts.specs.Facts.{facts_by_id, reset}
 use Rattle.schema.specs.Schemas.{parts}
 use Rattle.history.specs.Stores.{StoreView, PurgeBounds}
 use Rattle.rounds.specs.Rounds.{in_round}

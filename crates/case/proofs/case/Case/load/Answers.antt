@@ -5,7 +5,7 @@ use Rattle.schema.proofs.Checked.{schema_checked}
 use Rattle.lives.specs.Views.{CaseView}
 use Rattle.lives.proofs.Keeping.{promises_kept}
 use Rattle.case.specs.CaseViews.{view_of}
-use Rattle.case.proofs.Loading.{Loaded, loaded}
+use Rattle.case.proofs.Loading.{loaded}
 use Rattle.case.proofs.case.Case.load.Goals as goal
 
 pub returns-in-Some-read : goal.returns-in-Some-read
