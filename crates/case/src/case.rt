@@ -4,7 +4,7 @@ use history::Store;
 use schema::schema::Schema;
 use worklist::Worklist;
 
-pub mod lives;
+pub mod openings;
 pub mod questions;
 pub mod steps;
 
