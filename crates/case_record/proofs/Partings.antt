@@ -13,14 +13,14 @@ rest_of bs = take (length bs - 7) (drop 7 bs)
 pub read_at : (bs : List ℕ) (n m : ℕ) → 7 ≤ length bs → get_or bs 0 0 ≡ 3 →
     n ≡ number_of (get_or bs 1 0) (get_or bs 2 0) (get_or bs 3 0) (get_or bs 4 0) → m ≡ count_of (get_or bs 5 0) (get_or bs 6 0) → length (rest_of bs) ≡ 3 * m →
     Some (record { number = n; entries = entries_in (rest_of bs) }) ≡ read_case bs
-read_at [] n m seven three is-n is_m fits = absurd (omega arith)
-read_at (t ∷ []) n m seven three is-n is_m fits = absurd (omega arith)
-read_at (t ∷ n3 ∷ []) n m seven three is-n is_m fits = absurd (omega arith)
-read_at (t ∷ n3 ∷ n2 ∷ []) n m seven three is-n is_m fits = absurd (omega arith)
-read_at (t ∷ n3 ∷ n2 ∷ n1 ∷ []) n m seven three is-n is_m fits = absurd (omega arith)
-read_at (t ∷ n3 ∷ n2 ∷ n1 ∷ n0 ∷ []) n m seven three is-n is_m fits = absurd (omega arith)
-read_at (t ∷ n3 ∷ n2 ∷ n1 ∷ n0 ∷ hi ∷ []) n m seven three is-n is_m fits = absurd (omega arith)
-read_at (t ∷ n3 ∷ n2 ∷ n1 ∷ n0 ∷ hi ∷ lo ∷ rest) n m seven three is-n is_m fits =
+read_at [] n m seven three is_n is_m fits = absurd (omega arith)
+read_at (t ∷ []) n m seven three is_n is_m fits = absurd (omega arith)
+read_at (t ∷ n3 ∷ []) n m seven three is_n is_m fits = absurd (omega arith)
+read_at (t ∷ n3 ∷ n2 ∷ []) n m seven three is_n is_m fits = absurd (omega arith)
+read_at (t ∷ n3 ∷ n2 ∷ n1 ∷ []) n m seven three is_n is_m fits = absurd (omega arith)
+read_at (t ∷ n3 ∷ n2 ∷ n1 ∷ n0 ∷ []) n m seven three is_n is_m fits = absurd (omega arith)
+read_at (t ∷ n3 ∷ n2 ∷ n1 ∷ n0 ∷ hi ∷ []) n m seven three is_n is_m fits = absurd (omega arith)
+read_at (t ∷ n3 ∷ n2 ∷ n1 ∷ n0 ∷ hi ∷ lo ∷ rest) n m seven three is_n is_m fits =
     let e : rest_of (t ∷ n3 ∷ n2 ∷ n1 ∷ n0 ∷ hi ∷ lo ∷ rest) ≡ rest = take_rest (t ∷ n3 ∷ n2 ∷ n1 ∷ n0 ∷ hi ∷ lo ∷ rest) 7 in
     let long : length rest ≡ 3 * count_of hi lo = sym (ap length e) ∙ fits ∙ ap (λ k. 3 * k) is_m in
     let same : record { number = n; entries = entries_in (rest_of (t ∷ n3 ∷ n2 ∷ n1 ∷ n0 ∷ hi ∷ lo ∷ rest)) } ≡ record { number = number_of n3 n2 n1 n0; entries = entries_in rest } = cc in

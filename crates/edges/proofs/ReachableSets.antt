@@ -47,7 +47,7 @@ also true q r e = refl
 also false true r e = sym e
 also false false r e = refl
 
-module _ (back : List IdSet) (e : Edge) (a_small : e.source < 64) (b-small : e.target < length back) where
+module _ (back : List IdSet) (e : Edge) (a_small : e.source < 64) (b_small : e.target < length back) where
   gain_has : (x : ℕ) → has (gain_of back e) x ≡ (eqb x e.source || within back x e.source)
   gain_has x =
       has_union (get_or back e.source empty) (only e.source) x
@@ -60,7 +60,7 @@ module _ (back : List IdSet) (e : Edge) (a_small : e.source < 64) (b-small : e.t
       let g = gain_of back e in
       let b = e.target in
       ap (λ s. has s x) (getD_map_all (grown b g) (ap (λ v. cond v (union empty g) empty) (has_empty b)) (set back b (union (get_or back b empty) g)) y)
-      ∙ ⊎_elim (λ q. here g b q b-small) (there g b) (cases_eq y b)
+      ∙ ⊎_elim (λ q. here g b q b_small) (there g b) (cases_eq y b)
       ∙ ap (λ v. within back x y || (v && (eqb y b || within back b y))) (gain_has x)
     where
       at_own : (g : IdSet) → y < length back

@@ -40,8 +40,8 @@ Sofar xs n u (Some p) = (p < n) × Bears (get_or xs p AndSplit) u
 
 -- past an element that does not bear u
 sofar_on : (xs : List Element) (n u : ℕ) (o : Option ℕ) → (u < 64 → Bears (get_or xs n AndSplit) u → ⊥) → Sofar xs n u o → Sofar xs (n + 1) u o
-sofar_on xs n u None no-u h = λ low. below_more (λ q. Bears (get_or xs q AndSplit) u → ⊥) n (h low) (no-u low)
-sofar_on xs n u (Some p) no-u h = (omega (arith, h.0), h.1)
+sofar_on xs n u None no_u h = λ low. below_more (λ q. Bears (get_or xs q AndSplit) u → ⊥) n (h low) (no_u low)
+sofar_on xs n u (Some p) no_u h = (omega (arith, h.0), h.1)
 
 module _ (xs : List Element) where
   note_id : (k : Option ℕ) (x : Element) (n : ℕ) (ps : List (Option ℕ)) → length ps ≡ 64 → node_id x ≡ k → get_or xs n AndSplit ≡ x

@@ -102,7 +102,7 @@ Positioned xs p None = length xs ≤ p
 Positioned xs p (Some h) = (p < length xs) × Stands xs p h
 
 -- The elements from s to e are one item.
-pub record Item_at (xs : List Element) (s e : ℕ) : Type 0 where
+pub record ItemAt (xs : List Element) (s e : ℕ) : Type 0 where
   pub before : List Element
   pub item : Item
   pub after : List Element
@@ -117,7 +117,7 @@ pub record Ends (xs : List Element) (s e : ℕ) : Type 0 where
   pub branch : ℕ
   pub within : Within xs s e branch
   pub closes : Closes (slice_index_or xs e Bar)
-  pub item : Item_at xs s e
+  pub item : ItemAt xs s e
 
 -- Each block ends; what begins none does not.
 abbrev pub Ended : List Element → ℕ → Option ℕ → Type 0

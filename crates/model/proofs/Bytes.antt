@@ -3,7 +3,7 @@ use Rattle.std.proofs.Common.{◌≡◌, ℕ, ◌<◌, Bool, true, false, cond, 
 use Rattle.std.proofs.lemmas.Bool.{eqb-true, ltb-true, lt-ltb, cond-true}
 use Rattle.model.specs.declared.Element.{Element}
 use Rattle.model.specs.declared.Element.TheVariants.{Activity, AndSplit, Bar, AndJoin, XorSplit, XorJoin, LoopStart, LoopEnd}
-use Rattle.model.specs.Elements.{node_id, kind_byte, id_byte, LowId, Bytes_of, with_id, without_id, bytes_read}
+use Rattle.model.specs.Elements.{node_id, kind_byte, id_byte, LowId, BytesOf, with_id, without_id, bytes_read}
 
 none_some : {A : Type 0} (x : Element) → ◌≡◌ {A = Option Element} None (Some x) → A
 none_some x e = absurd (let z : ◌≡◌ {A = ℕ} 0 1 = cc in omega arith)
@@ -24,17 +24,17 @@ by_kind true k n here rest x h f g e = f (eqb-true k n h) e
 by_kind false k n here rest x h f g e = g e
 
 module _ (k i : ℕ) (x : Element) where
-  noded : (n : ℕ) (y : Element) → kind_byte y ≡ n → node_id y ≡ Some i → k ≡ n → with_id i y ≡ Some x → Bytes_of k i x
+  noded : (n : ℕ) (y : Element) → kind_byte y ≡ n → node_id y ≡ Some i → k ≡ n → with_id i y ≡ Some x → BytesOf k i x
   noded n y is id q e =
       let w = with (ltb i 64) i y x refl e in
-      subst (λ z. Bytes_of k i z) w.1 (q ∙ sym is, sym (ap Rattle.model.specs.Elements.or_none id), subst LowId (sym id) w.0)
+      subst (λ z. BytesOf k i z) w.1 (q ∙ sym is, sym (ap Rattle.model.specs.Elements.or_none id), subst LowId (sym id) w.0)
 
-  bare : (n : ℕ) (y : Element) → kind_byte y ≡ n → node_id y ≡ None → k ≡ n → without_id i y ≡ Some x → Bytes_of k i x
+  bare : (n : ℕ) (y : Element) → kind_byte y ≡ n → node_id y ≡ None → k ≡ n → without_id i y ≡ Some x → BytesOf k i x
   bare n y is id q e =
       let w = without (eqb i 255) i y x refl e in
-      subst (λ z. Bytes_of k i z) w.1 (q ∙ sym is, w.0 ∙ sym (ap Rattle.model.specs.Elements.or_none id), subst LowId (sym id) tt)
+      subst (λ z. BytesOf k i z) w.1 (q ∙ sym is, w.0 ∙ sym (ap Rattle.model.specs.Elements.or_none id), subst LowId (sym id) tt)
 
-  pub read_is : bytes_read k i ≡ Some x → Bytes_of k i x
+  pub read_is : bytes_read k i ≡ Some x → BytesOf k i x
   read_is e =
       by_kind (eqb k 1) k 1 _ _ x refl (noded 1 (Activity i) refl refl)
       (by_kind (eqb k 2) k 2 _ _ x refl (bare 2 AndSplit refl refl)
@@ -55,5 +55,5 @@ own XorJoin h = refl
 own LoopStart h = refl
 own (LoopEnd i) h = cond-true _ _ _ (lt-ltb i 64 h)
 
-pub is_read : (k i : ℕ) (x : Element) → Bytes_of k i x → bytes_read k i ≡ Some x
+pub is_read : (k i : ℕ) (x : Element) → BytesOf k i x → bytes_read k i ≡ Some x
 is_read k i x b = ap (λ n. bytes_read n i) b.0 ∙ ap (λ n. bytes_read (kind_byte x) n) b.1 ∙ own x b.2

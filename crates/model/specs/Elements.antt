@@ -39,13 +39,13 @@ LowId None = Unit {0}
 LowId (Some i) = i < 64
 
 -- The two bytes are those of this element.
-abbrev pub Bytes_of : ℕ → ℕ → Element → Type 0
-Bytes_of kind id x = (kind ≡ kind_byte x) × (id ≡ id_byte x) × LowId (node_id x)
+abbrev pub BytesOf : ℕ → ℕ → Element → Type 0
+BytesOf kind id x = (kind ≡ kind_byte x) × (id ≡ id_byte x) × LowId (node_id x)
 
 -- Two bytes are taken as an element exactly if they are its bytes.
 abbrev pub Spelled : ℕ → ℕ → Option Element → Type 0
-Spelled kind id (Some x) = Bytes_of kind id x
-Spelled kind id None = (x : Element) → Bytes_of kind id x → ⊥
+Spelled kind id (Some x) = BytesOf kind id x
+Spelled kind id None = (x : Element) → BytesOf kind id x → ⊥
 
 -- An element with an id needs one up to 63, the others need FF.
 abbrev pub with_id : ℕ → Element → Option Element

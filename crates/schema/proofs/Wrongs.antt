@@ -5,7 +5,7 @@ use Rattle.std.proofs.lemmas.Bool.{ltb-true, lt-ltb}
 use Rattle.std.proofs.lemmas.Bool.Decides.{Decides-eqb, Decides-or}
 use Rattle.model.specs.declared.Element.{Element}
 use Rattle.model.specs.declared.Element.TheVariants.{Activity, AndSplit, Bar, AndJoin, XorSplit, XorJoin, LoopStart, LoopEnd}
-use Rattle.model.specs.Elements.{node_id, bytes_read, Bytes_of, LowId}
+use Rattle.model.specs.Elements.{node_id, bytes_read, BytesOf, LowId}
 use Rattle.model.specs.Rows.{Bears, Among, Unique, Low}
 use Rattle.model.proofs.Bytes.{read_is, is_read}
 use Rattle.schema.specs.Reading.{is_id, among, used, row_taken, row_read}
@@ -65,7 +65,7 @@ pub used_false : (xs : List Element) (x : Element) → used xs (node_id x) ≡ f
 used_false xs x e u h = unused_id xs (node_id x) e u (bears_to x u h)
 
 -- one element more
-spells_last : (bs : List (ℕ × ℕ)) (xs : List Element) (b : ℕ × ℕ) (x : Element) → Spells bs xs → Bytes_of b.0 b.1 x → Spells (bs ++ b ∷ []) (xs ++ x ∷ [])
+spells_last : (bs : List (ℕ × ℕ)) (xs : List Element) (b : ℕ × ℕ) (x : Element) → Spells bs xs → BytesOf b.0 b.1 x → Spells (bs ++ b ∷ []) (xs ++ x ∷ [])
 spells_last [] [] b x s h = (h, tt)
 spells_last [] (y ∷ ys) b x s h = elim s [ ]
 spells_last (c ∷ cs) [] b x s h = elim s [ ]

@@ -9,7 +9,7 @@ use Rattle.model.specs.declared.Element.{Element}
 use Rattle.model.specs.declared.Edge.{Edge}
 use Rattle.model.specs.declared.refusal.SchemaRefusal.{SchemaRefusal}
 use Rattle.model.specs.declared.refusal.SchemaRefusal.TheVariants as refusal
-use Rattle.model.specs.Elements.{Bytes_of}
+use Rattle.model.specs.Elements.{BytesOf}
 use Rattle.model.specs.Rows.{Bears, Among, Unique, Low, Precedes}
 use Rattle.model.specs.Trees.{Seq, Wide, flatten, First}
 use Rattle.model.specs.Relations.{Joins}
@@ -21,7 +21,7 @@ abbrev pub Spells : List (ℕ × ℕ) → List Element → Type 0
 Spells [] [] = Unit {0}
 Spells [] (x ∷ xs) = ⊥
 Spells (b ∷ bs) [] = ⊥
-Spells (b ∷ bs) (x ∷ xs) = Bytes_of b.0 b.1 x × Spells bs xs
+Spells (b ∷ bs) (x ∷ xs) = BytesOf b.0 b.1 x × Spells bs xs
 
 abbrev pub Fine : List Element → Type 0
 Fine xs = Unique xs × Low xs
@@ -32,7 +32,7 @@ Reused xs x = (u : ℕ) × Bears x u × Among xs u
 
 -- No element has its bytes, or one has and its id was used earlier.
 abbrev pub Wrong : List Element → ℕ × ℕ → Type 0
-Wrong xs b = ((x : Element) → Bytes_of b.0 b.1 x → ⊥) ⊎ ((x : Element) × Bytes_of b.0 b.1 x × Reused xs x)
+Wrong xs b = ((x : Element) → BytesOf b.0 b.1 x → ⊥) ⊎ ((x : Element) × BytesOf b.0 b.1 x × Reused xs x)
 
 -- The element at place p is wrong, and those before it are not.
 pub record FirstWrong (bs : List (ℕ × ℕ)) (p : ℕ) : Type 0 where

@@ -15,8 +15,8 @@ loop-place-init c = (λ id. c.empty-ids.ensures.members id ∙ nodes_none c.args
 
 pub loop-place-preserved : goal.loop-place-preserved
 loop-place-preserved c =
-    let from-there : c.args.from ≤ c.loop-place.place = c.loop-place.auto.place in
+    let from_there : c.args.from ≤ c.loop-place.place = c.loop-place.auto.place in
     let inside : c.loop-place.place < length c.args.row.now = omega arith in (
-      λ id. nodes_more c.args.row.now c.args.from c.loop-place.place _ id _ _ from-there inside (c.loop-place.invariant.0 id) (c.with_node-ids.ensures id),
+      λ id. nodes_more c.args.row.now c.args.from c.loop-place.place _ id _ _ from_there inside (c.loop-place.invariant.0 id) (c.with_node-ids.ensures id),
       λ h. absurd (omega arith),
     )
