@@ -5,7 +5,7 @@
 --   add_answer v, added e v      one more entry at the end, refused if no place is free
 --   purge_answer cost v          refused if fewer places are free than a purge costs
 --   purged cost ids free v       without the entries of these nodes
---   PurgeBounds                 how many places are free after a purge
+--   PurgeBounds                  how many places are free after a purge
 use Rattle.std.specs.Prelude.{◌≡◌, ℕ, ◌+◌, ◌-◌, ◌<◌, ◌≤◌, cond, List, [], ◌∷◌, ◌++◌, length, Ok, Err, Result, ◌==◌, nat_lt}
 use Rattle.ids.specs.declared.IdSet.{IdSet}
 use Rattle.model.specs.declared.Entry.{Entry}

@@ -52,6 +52,7 @@ impl IdSet {
             bits: self.bits & other.bits,
         }
     }
+
     // The ids of this set that are not in the other: those in both are struck out.
     pub fn difference(self, other: IdSet) -> IdSet
         ensures value { result ≡ difference self other }

@@ -1,6 +1,6 @@
 -- The items of a tree, and the steps that have their node in it. Assumes nothing.
 --   Holds t x      item x stands in the tree, however deep
---   HasNode t e   the tree has the node that step e is of, and the branch of a choice
+--   HasNode t e    the tree has the node that step e is of, and the branch of a choice
 use Rattle.std.specs.Prelude.{◌≡◌, ◌<◌, ◌⊎◌}
 use Rattle.model.specs.declared.Entry.{Entry}
 use Rattle.model.specs.declared.Entry.TheVariants.{Start, End, Choose, Leave}

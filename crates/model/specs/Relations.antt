@@ -1,7 +1,7 @@
 -- Which nodes of a tree a sync edge may join. Assumes nothing.
 --   In t u           node u is in the tree
 --   Beside t u v     an AND block holds u in an earlier branch than v
---   SameLoop t u v  activities with the same innermost loop, or in none
+--   SameLoop t u v   activities with the same innermost loop, or in none
 --   Joins t u v      a sync edge may lead between u and v
 use Rattle.std.specs.Prelude.{◌≡◌, ℕ, ◌⊎◌}
 use Rattle.model.specs.Trees.{Seq, nil, cons, Item, activity, loop, and, xor, Branches, last, bar}

@@ -1,7 +1,7 @@
 -- The run of a history from a record: entry by entry, each judged at its turn. Assumes nothing.
 --   ran S fs p rs     the facts in which the run of the entries rs, from place p on, ends or stops, and the refusal
 --   Spelled rs es     the raw entries are the bytes of the entries
---   RunTold S fs rs  what that means: all entries run, or the first at which the run stops;  RunOnly  nothing else does
+--   RunTold S fs rs   what that means: all entries run, or the first at which the run stops;  RunOnly  nothing else does
 use Rattle.std.specs.Prelude.{◌≡◌, ℕ, ◌+◌, List, [], ◌∷◌, ◌++◌, length, Some, None, Ok, Err, Option, Result}
 use Rattle.model.specs.declared.Entry.{Entry}
 use Rattle.model.specs.declared.Fact.{Fact}

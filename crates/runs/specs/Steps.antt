@@ -1,6 +1,6 @@
 -- The steps that a schema and a case's facts allow. Assumes nothing.
 --   fits_in xs e          the row has a node of the entry's kind with its id, and the branch of a choice, by its tables
---   NodeTold xs e        what that means: the row's tree has that node
+--   NodeTold xs e         what that means: the row's tree has that node
 --   Allowed S fs e        e is a step that the marking allows
 --   Runs S fs es gs       from the facts fs the entries es are steps, one after the other, and end in the facts gs
 --   step_in S fs e        what one step gives: the facts after it, or why it is refused

@@ -3,7 +3,7 @@
 --   Fine xs            ids end at 63, and each is used once
 --   Wrong xs b         what is wrong with an element after those of xs
 --   Rightly raw r      r is the answer to a record: the first cause that holds, or the schema
---   ReadRightly l r   the same for a line
+--   ReadRightly l r    the same for a line
 use Rattle.std.specs.Prelude.{◌≡◌, ℕ, ◌<◌, ◌≤◌, ◌⊎◌, List, [], ◌∷◌, ◌++◌, length, Ok, Err, Result}
 use Rattle.model.specs.declared.Element.{Element}
 use Rattle.model.specs.declared.Edge.{Edge}

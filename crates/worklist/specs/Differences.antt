@@ -1,6 +1,6 @@
 -- Bringing a worklist in step by difference, id by id from 0 on. Assumes nothing.
 --   Brought .. id a b         id was brought in step: left alone if it was, else offered or withdrawn
---   ByDifference .. n a b    the ids below n were, one after another
+--   ByDifference .. n a b     the ids below n were, one after another
 -- Both are over what a kind of worklist W offers and what it promises of an offer and of a withdrawal.
 use Rattle.std.specs.Prelude.{◌≡◌, ℕ, ◌+◌, Bool, true, false}
 
