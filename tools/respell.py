@@ -1,7 +1,8 @@
 #!/usr/bin/env python3
 """Respells this repository's definitions and lemmas: words in snake case, types in camel case.
 
-usage: python3 tools/respell.py        in the repository, once, after port.py
+usage: python3 tools/respell.py          in the repository, once, after port.py
+       python3 tools/respell.py --dry    only prints the names, old and new
 
 A name goes by what declares it in an .antt file: a definition, a lemma, a record's or a data type's name, a field, a
 constructor. `Has-node` becomes `HasNode`, `has-fact` becomes `has_fact`. What the check makes (the names of goals and of
@@ -94,6 +95,8 @@ def main():
     clash = {new: olds for new, olds in back.items() if len(olds) > 1 or new in plain}
     for new, olds in sorted(clash.items()):
         print("falls together:", new, "from", ", ".join(sorted(olds)), "and itself" if new in plain else "", file=sys.stderr)
+    if clash:
+        raise SystemExit(1)
     if "--dry" in sys.argv:
         print(len(turn), "names")
         for old in sorted(turn):

@@ -5,7 +5,7 @@ use Rattle.model.specs.Refusals.{reason, case_reason}
 use Rattle.lives.specs.declared.CallRefusal.{CallRefusal}
 use Rattle.lives.specs.declared.CallRefusal.TheVariants as call
 
--- Layer 7 is the store; the others are told as on paper.
+-- Layer 7 is the store; the others are told as the replay of a record tells them.
 abbrev pub call_reason : CallRefusal → Reason
 call_reason (call.Case refusal) = case_reason refusal
 call_reason (call.Store place id) = reason 40 7 place (Some id)

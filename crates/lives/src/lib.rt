@@ -7,7 +7,7 @@ ghost use Rattle.lives.specs.Refusals.{call_reason};
 
 use model::refusal::{CaseRefusal, Reason};
 
-// Why a call on a case was refused: as its line or its step would be on paper, or since the store has no place for it.
+// Why a call on a case was refused: as the replay of a record refuses its line or a step, or since the store has no place.
 #[derive(Clone, Copy)]
 pub enum CallRefusal {
     Case(CaseRefusal),

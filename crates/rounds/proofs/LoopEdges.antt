@@ -1,5 +1,5 @@
 -- No sync edge leads out of a loop's body, and none from its test. Assumes nothing.
-use Rattle.std.proofs.Common.{◌≡◌, ℕ, ◌+◌, true, not, List, [], ◌∷◌, ◌++◌, is_some, is_ok as isOk, Ok, Err, Result, sym, refl, subst, inl, inr, arith}
+use Rattle.std.proofs.Common.{◌≡◌, ℕ, ◌+◌, true, not, List, [], ◌∷◌, ◌++◌, is_some, is_ok, Ok, Err, Result, sym, refl, subst, inl, inr, arith}
 use Rattle.std.proofs.lemmas.Bool.{and_parts}
 use Rattle.model.specs.declared.Edge.{Edge}
 use Rattle.model.specs.Trees.{Seq, nil, cons, Item, activity, loop, and, xor, Branches, last, bar, flatten}
@@ -109,13 +109,13 @@ answer_joined t Before [] earlier p a = tt
 answer_joined t Before (e ∷ es) earlier p (inl (ok, a)) = (ok.joins, answer_joined t Before es (earlier ++ e ∷ []) (p + 1) a)
 answer_joined t Before (e ∷ es) earlier p (inr (bad, a)) = absurd (let z : ◌≡◌ {A = ℕ} 0 1 = cc in omega arith)
 
-is_ok : (r : Result (Unit {0}) (ℕ × ℕ)) → isOk r ≡ true → r ≡ Ok tt
-is_ok (Ok tt) e = refl
-is_ok (Err k) e = absurd (let z : ◌≡◌ {A = ℕ} 0 1 = cc in omega arith)
+from_is_ok : (r : Result (Unit {0}) (ℕ × ℕ)) → is_ok r ≡ true → r ≡ Ok tt
+from_is_ok (Ok tt) e = refl
+from_is_ok (Err k) e = absurd (let z : ◌≡◌ {A = ℕ} 0 1 = cc in omega arith)
 
 -- every edge of a schema that passed the checks joins what may be joined
 pub checked_joined : (S : SchemaParts) → Admitted S → (t : Seq) → S.row ≡ flatten t → AllJoined t S.edges
 checked_joined S c t e =
     let fine = checked_fine S.row S.edges c.passed in
-    let ok = is_ok (edges_verdict S.row S.edges) (and_parts (not (is_some (fault [] 0 S.row))) _ (and_parts (distinct S.row) _ c.passed).1).1 in
+    let ok = from_is_ok (edges_verdict S.row S.edges) (and_parts (not (is_some (fault [] 0 S.row))) _ (and_parts (distinct S.row) _ c.passed).1).1 in
     answer_joined t (Precedes t) S.edges [] 0 (tells S.row S.edges (Ok tt) (sym ok) t e fine.0 fine.1)
