@@ -1,9 +1,12 @@
-// Lists that can grow to a limit and no further.
+// Lists that can grow to a limit and no further, and what is done within slices, which cannot grow.
 #![tactic(auto)]
 
 ghost use Rattle.std.specs.Prelude.{◌≤◌, vec_len, vec_capacity};
 
 pub mod methods;
+mod slices;
+
+pub use slices::{put, retain};
 
 // A list of at most LIMIT items. Memory for all of them is taken when the list begins.
 #[derive(Drop)]

@@ -6,7 +6,7 @@ use crate::Bounded;
 use std::alloc::{AllocError, Global};
 
 // A list has no place for one more item.
-#[derive(Clone, Copy)]
+#[derive(Clone, Copy, PartialEq, Eq, Debug)]
 pub struct Full;
 
 impl<T: Copy, const LIMIT: usize> Bounded<T, LIMIT> {

@@ -1,8 +1,9 @@
 -- Sets of ids, kept as the bits of a number. Assumes nothing.
 --   has s i            whether i is in s: the meaning of a set
 --   empty, only i      the set of no id, and of one
+--   with_id s i        the ids of s, and i if it is one
 --   union, intersection, difference
-use Rattle.std.specs.Prelude.{ℕ, ◌/◌, ◌%◌, ◌^◌, Bool, cond, ◌==◌, bit_and, bit_or, bit_xor, nat_lt}
+use Rattle.std.specs.Prelude.{ℕ, ◌/◌, ◌%◌, ◌^◌, Bool, false, cond, Some, None, Option, ◌==◌, bit_and, bit_or, bit_xor, nat_lt}
 use Rattle.ids.specs.declared.IdSet.{IdSet}
 
 unfoldable pub has : IdSet → ℕ → Bool
@@ -17,6 +18,15 @@ only i = record { bits = cond (nat_lt i 64) (2 ^ i) 0 }
 
 unfoldable pub union : IdSet → IdSet → IdSet
 union s t = record { bits = bit_or s.bits t.bits }
+
+-- Whether i is the id that is given.
+abbrev pub is_id : Option ℕ → ℕ → Bool
+is_id None i = false
+is_id (Some j) i = i == j
+
+abbrev pub with_id : IdSet → Option ℕ → IdSet
+with_id s None = s
+with_id s (Some i) = union s (only i)
 
 unfoldable pub intersection : IdSet → IdSet → IdSet
 intersection s t = record { bits = bit_and s.bits t.bits }

@@ -3,10 +3,10 @@
 
 ghost use Rattle.std.specs.Prelude.{◌≡◌, ℕ, Bool, false, not, ◌&&◌, ◌||◌, ◌==◌, nat_lt};
 ghost use Rattle.ids.specs.Counts.{how_many};
-ghost use Rattle.ids.specs.Sets.{has, empty, only, union, intersection, difference};
+ghost use Rattle.ids.specs.Sets.{has, empty, only, with_id, is_id, union, intersection, difference};
 
 // A set of ids 0 to 63; an id above 63 is never in one.
-#[derive(Clone, Copy)]
+#[derive(Clone, Copy, PartialEq, Eq)]
 pub struct IdSet {
     bits: u64,
 }
@@ -42,6 +42,14 @@ impl IdSet {
         IdSet {
             bits: self.bits | other.bits,
         }
+    }
+
+    // The set with one more id, if one is given; an id above 63 changes nothing.
+    pub fn with(self, id: Option<u8>) -> IdSet
+        ensures value { result ≡ with_id self id }
+        ensures members { (i : ℕ) → has result i ≡ (has self i || (nat_lt i 64 && is_id id i)) }
+    {
+        id.map_or(self, |id| self.union(IdSet::only(id)))
     }
 
     pub fn intersection(self, other: IdSet) -> IdSet

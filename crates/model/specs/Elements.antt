@@ -1,6 +1,7 @@
 -- The bytes of an element, and the node that it is. Assumes nothing.
-use Rattle.std.specs.Prelude.{◌≡◌, ℕ, ◌<◌, cond, Some, None, Option, ◌==◌, nat_lt}
+use Rattle.std.specs.Prelude.{◌≡◌, ℕ, ◌<◌, cond, Some, None, Option, Ok, Err, Result, ok_or, ◌==◌, nat_lt}
 use Rattle.model.specs.declared.Element.{Element}
+use Rattle.model.specs.declared.Unspelled.{Unspelled}
 use Rattle.model.specs.declared.Element.TheVariants.{Activity, AndSplit, Bar, AndJoin, XorSplit, XorJoin, LoopStart, LoopEnd}
 
 -- The id of an activity, a decision or a test; other elements have none.
@@ -42,10 +43,10 @@ LowId (Some i) = i < 64
 abbrev pub BytesOf : ℕ → ℕ → Element → Type 0
 BytesOf kind id x = (kind ≡ kind_byte x) × (id ≡ id_byte x) × LowId (node_id x)
 
--- Two bytes are taken as an element exactly if they are its bytes.
-abbrev pub Spelled : ℕ → ℕ → Option Element → Type 0
-Spelled kind id (Some x) = BytesOf kind id x
-Spelled kind id None = (x : Element) → BytesOf kind id x → ⊥
+-- A kind byte and an id byte are taken as an element exactly if they are its bytes.
+abbrev pub Spells : ℕ × ℕ → Result Element Unspelled → Type 0
+Spells bytes (Ok x) = BytesOf bytes.0 bytes.1 x
+Spells bytes (Err e) = (x : Element) → BytesOf bytes.0 bytes.1 x → ⊥
 
 -- An element with an id needs one up to 63, the others need FF.
 abbrev pub with_id : ℕ → Element → Option Element
@@ -65,3 +66,7 @@ bytes_read kind id =
     (cond (kind == 6) (without_id id XorJoin)
     (cond (kind == 7) (without_id id LoopStart)
     (cond (kind == 8) (with_id id (LoopEnd id)) None)))))))
+
+-- What the conversion of both bytes answers.
+abbrev pub element_read : ℕ × ℕ → Result Element Unspelled
+element_read bytes = ok_or (bytes_read bytes.0 bytes.1) (record {})

@@ -1,6 +1,7 @@
 -- The bytes of a history's entry, its node, and what it needs and sets. Assumes nothing.
-use Rattle.std.specs.Prelude.{◌≡◌, ℕ, cond, Some, None, Option, ◌==◌}
+use Rattle.std.specs.Prelude.{◌≡◌, ℕ, cond, Some, None, Option, Ok, Err, Result, ok_or, ◌==◌}
 use Rattle.model.specs.declared.Entry.{Entry}
+use Rattle.model.specs.declared.Unspelled.{Unspelled}
 use Rattle.model.specs.declared.Entry.TheVariants.{Start, End, Choose, Leave}
 use Rattle.model.specs.declared.Fact.{Fact}
 use Rattle.model.specs.declared.Fact.TheVariants.{Begun, Ended, Decided, Left}
@@ -31,10 +32,10 @@ branch_byte (Leave i) = 255
 abbrev pub EntryBytes : ℕ → ℕ → ℕ → Entry → Type 0
 EntryBytes kind id branch e = (kind ≡ entry_kind e) × (id ≡ entry_id e) × (branch ≡ branch_byte e)
 
--- Three bytes are taken as an entry exactly if they are its bytes.
-abbrev pub EntrySpelled : ℕ → ℕ → ℕ → Option Entry → Type 0
-EntrySpelled kind id branch (Some e) = EntryBytes kind id branch e
-EntrySpelled kind id branch None = (e : Entry) → EntryBytes kind id branch e → ⊥
+-- A kind byte, an id byte and a branch byte are taken as an entry exactly if they are its bytes.
+abbrev pub EntrySpells : ℕ × ℕ × ℕ → Result Entry Unspelled → Type 0
+EntrySpells bytes (Ok e) = EntryBytes bytes.0 bytes.1 bytes.2 e
+EntrySpells bytes (Err z) = (e : Entry) → EntryBytes bytes.0 bytes.1 bytes.2 e → ⊥
 
 abbrev pub without_branch : ℕ → Entry → Option Entry
 without_branch branch e = cond (branch == 255) (Some e) None
@@ -45,6 +46,10 @@ entry_read kind id branch =
     (cond (kind == 2) (without_branch branch (End id))
     (cond (kind == 3) (Some (Choose id branch))
     (cond (kind == 4) (without_branch branch (Leave id)) None)))
+
+-- What the conversion of the three bytes answers.
+abbrev pub entry_from : ℕ × ℕ × ℕ → Result Entry Unspelled
+entry_from bytes = ok_or (entry_read bytes.0 bytes.1 bytes.2) (record {})
 
 -- The state that a step needs its node to be in: a finish needs a Running activity, the others an Activated node.
 abbrev pub needed : Entry → State

@@ -2,12 +2,14 @@
 #![tactic(auto)]
 
 ghost use Rattle.std.specs.Prelude.{◌≡◌};
-ghost use Rattle.model.specs.Elements.{bytes_read, Spelled, node_id};
-ghost use Rattle.model.specs.Entries.{entry_read, EntrySpelled, entry_id};
+ghost use Rattle.model.specs.Elements.{element_read, Spells, node_id};
+ghost use Rattle.model.specs.Entries.{entry_from, EntrySpells, entry_id};
 
 pub mod refusal;
 
 use bounded::Bounded;
+use std::error::Error;
+use std::fmt;
 
 // One element of a schema's row. Activities, decisions (of an XOR split) and tests (of a loop end) are
 // its nodes, and only they have an id.
@@ -34,7 +36,7 @@ pub struct Edge {
 }
 
 // What has happened to a node.
-#[derive(Clone, Copy)]
+#[derive(Clone, Copy, PartialEq, Eq)]
 pub enum Fact {
     Nothing,
     // of an activity
@@ -46,8 +48,8 @@ pub enum Fact {
     Left,
 }
 
-// What passes a gap of a row.
-#[derive(Clone, Copy)]
+// What passes a gap of a row. An `Option<bool>` would be no plainer: the rules call the three by these names.
+#[derive(Clone, Copy, PartialEq, Eq)]
 pub enum Signal {
     None,
     True,
@@ -65,7 +67,7 @@ pub enum State {
 }
 
 // A step of a case, as its history keeps it.
-#[derive(Clone, Copy)]
+#[derive(Clone, Copy, PartialEq, Eq)]
 pub enum Entry {
     // of an activity
     Start(u8),
@@ -82,25 +84,35 @@ pub type Row = Bounded<Element, 128>;
 // The sync edges of a schema, in the order in which they were listed.
 pub type EdgeList = Bounded<Edge, 32>;
 
-impl Element {
-    // The element that a kind byte and an id byte spell, if they spell one.
-    pub fn from_bytes(kind: u8, id: u8) -> Option<Element>
-        ensures value { result ≡ bytes_read kind id }
-        ensures spelled { Spelled kind id result }
+// Bytes that spell no element, or no entry.
+#[derive(Clone, Copy, PartialEq, Eq, Debug)]
+pub struct Unspelled;
+
+// From a kind byte and an id byte.
+impl TryFrom<(u8, u8)> for Element {
+    type Error = Unspelled;
+
+    ghost try_from_gives = { λ bytes element. element ≡ element_read bytes };
+
+    fn try_from(bytes: (u8, u8)) -> Result<Element, Unspelled>
+        ensures value { result ≡ element_read bytes }
+        ensures spelled { Spells bytes result }
     {
-        match kind {
-            1 if id < 64 => Some(Element::Activity(id)),
-            2 if id == NO_ID => Some(Element::AndSplit),
-            3 if id == NO_ID => Some(Element::Bar),
-            4 if id == NO_ID => Some(Element::AndJoin),
-            5 if id < 64 => Some(Element::XorSplit(id)),
-            6 if id == NO_ID => Some(Element::XorJoin),
-            7 if id == NO_ID => Some(Element::LoopStart),
-            8 if id < 64 => Some(Element::LoopEnd(id)),
-            _ => None,
+        match bytes {
+            (1, id) if id < 64 => Ok(Element::Activity(id)),
+            (2, NO_ID) => Ok(Element::AndSplit),
+            (3, NO_ID) => Ok(Element::Bar),
+            (4, NO_ID) => Ok(Element::AndJoin),
+            (5, id) if id < 64 => Ok(Element::XorSplit(id)),
+            (6, NO_ID) => Ok(Element::XorJoin),
+            (7, NO_ID) => Ok(Element::LoopStart),
+            (8, id) if id < 64 => Ok(Element::LoopEnd(id)),
+            _ => Err(Unspelled),
         }
     }
+}
 
+impl Element {
     // The id of its node, if it is one.
     pub fn id(self) -> Option<u8>
         ensures { result ≡ node_id self }
@@ -116,21 +128,27 @@ impl Element {
     }
 }
 
-impl Entry {
-    // The entry that a kind byte, an id byte and a branch byte spell, if they spell one.
-    pub fn from_bytes(kind: u8, id: u8, branch: u8) -> Option<Entry>
-        ensures value { result ≡ entry_read kind id branch }
-        ensures spelled { EntrySpelled kind id branch result }
+// From a kind byte, an id byte and a branch byte.
+impl TryFrom<(u8, u8, u8)> for Entry {
+    type Error = Unspelled;
+
+    ghost try_from_gives = { λ bytes entry. entry ≡ entry_from bytes };
+
+    fn try_from(bytes: (u8, u8, u8)) -> Result<Entry, Unspelled>
+        ensures value { result ≡ entry_from bytes }
+        ensures spelled { EntrySpells bytes result }
     {
-        match kind {
-            1 if branch == NO_ID => Some(Entry::Start(id)),
-            2 if branch == NO_ID => Some(Entry::End(id)),
-            3 => Some(Entry::Choose(id, branch)),
-            4 if branch == NO_ID => Some(Entry::Leave(id)),
-            _ => None,
+        match bytes {
+            (1, id, NO_ID) => Ok(Entry::Start(id)),
+            (2, id, NO_ID) => Ok(Entry::End(id)),
+            (3, id, branch) => Ok(Entry::Choose(id, branch)),
+            (4, id, NO_ID) => Ok(Entry::Leave(id)),
+            _ => Err(Unspelled),
         }
     }
+}
 
+impl Entry {
     // The id of the node that the step is of.
     pub fn id(self) -> u8
         ensures { result ≡ entry_id self }
@@ -140,3 +158,23 @@ impl Entry {
         }
     }
 }
+
+// As programs print it.
+impl fmt::Display for Entry {
+    fn fmt<W: fmt::Write>(&self, f: &mut fmt::Formatter<W>) -> fmt::Result {
+        match self {
+            Entry::Start(id) => write!(f, "START {id}"),
+            Entry::End(id) => write!(f, "END {id}"),
+            Entry::Choose(id, branch) => write!(f, "CHOOSE {id} branch {branch}"),
+            Entry::Leave(id) => write!(f, "LEAVE {id}"),
+        }
+    }
+}
+
+impl fmt::Display for Unspelled {
+    fn fmt<W: fmt::Write>(&self, f: &mut fmt::Formatter<W>) -> fmt::Result {
+        f.write_str("the bytes spell nothing")
+    }
+}
+
+impl Error for Unspelled {}

@@ -1,7 +1,9 @@
 // Why something was refused, and how that is told.
 ghost use Rattle.std.specs.Prelude.{◌≡◌};
+ghost use Rattle.model.specs.declared.refusal.CaseRefusal.TheVariants.{Step};
 ghost use Rattle.model.specs.Refusals.{schema_reason, case_reason};
 
+use crate::Unspelled;
 use std::fmt;
 
 // Why a schema line was refused: the first of these that applies, in this order.
@@ -20,7 +22,7 @@ pub enum SchemaRefusal {
 }
 
 // Why a step is refused.
-#[derive(Clone, Copy)]
+#[derive(Clone, Copy, PartialEq, Eq)]
 pub enum StepRefusal {
     // the entry is none, or there is no node of its kind with the id, or no such branch
     Node,
@@ -28,8 +30,32 @@ pub enum StepRefusal {
     State,
 }
 
+// Bytes that spell no entry are refused as such a step.
+impl From<Unspelled> for StepRefusal {
+    ghost use Rattle.model.specs.declared.refusal.StepRefusal.TheVariants.{Node};
+
+    ghost from_gives = { λ _ refusal. refusal ≡ Node };
+
+    fn from(_unspelled: Unspelled) -> StepRefusal {
+        Self::Node
+    }
+}
+
+impl StepRefusal {
+    // A case is refused for it: the step is of this node, and at this place if it is an entry of a record.
+    pub fn of(self, place: Option<usize>, id: u8) -> CaseRefusal
+        ensures { result ≡ Step place id self }
+    {
+        CaseRefusal::Step {
+            place,
+            id,
+            refusal: self,
+        }
+    }
+}
+
 // Why a case was refused: the line, or a step of it. A step that is no entry of a record has no place.
-#[derive(Clone, Copy)]
+#[derive(Clone, Copy, PartialEq, Eq)]
 pub enum CaseRefusal {
     Line,
     Step {
@@ -40,7 +66,7 @@ pub enum CaseRefusal {
 }
 
 // A refusal as it is told: its number, the layer of checks that gave it, the place in what was checked and
-// the id concerned, where there are such.
+// the id concerned, where there are such. It is only told: code goes by the enums that it is made from.
 #[derive(Clone, Copy)]
 pub struct Reason {
     pub place: Option<usize>,
@@ -49,65 +75,49 @@ pub struct Reason {
     pub layer: u8,
 }
 
-impl SchemaRefusal {
-    pub fn reason(self) -> Reason
-        ensures { result ≡ schema_reason self }
+impl From<SchemaRefusal> for Reason {
+    ghost from_gives = { λ refusal reason. reason ≡ schema_reason refusal };
+
+    fn from(refusal: SchemaRefusal) -> Reason
+        ensures { result ≡ schema_reason refusal }
     {
-        match self {
-            SchemaRefusal::Line => Reason {
-                place: None,
-                id: None,
-                number: 1,
-                layer: 1,
-            },
-            SchemaRefusal::Size => Reason {
-                place: None,
-                id: None,
-                number: 10,
-                layer: 2,
-            },
-            SchemaRefusal::Element { place } => Reason {
-                place: Some(place),
-                id: None,
-                number: 11,
-                layer: 2,
-            },
-            SchemaRefusal::Block { place } => Reason {
-                place: Some(place),
-                id: None,
-                number: 13,
-                layer: 2,
-            },
-            SchemaRefusal::Edge { place, source } => Reason {
-                place: Some(place),
-                id: Some(source),
-                number: 14,
-                layer: 2,
-            },
+        let (number, layer, place, id) = match refusal {
+            SchemaRefusal::Line => (1, 1, None, None),
+            SchemaRefusal::Size => (10, 2, None, None),
+            SchemaRefusal::Element { place } => (11, 2, Some(place), None),
+            SchemaRefusal::Block { place } => (13, 2, Some(place), None),
+            SchemaRefusal::Edge { place, source } => (14, 2, Some(place), Some(source)),
+        };
+        Reason {
+            place,
+            id,
+            number,
+            layer,
         }
     }
 }
 
-impl CaseRefusal {
-    pub fn reason(self) -> Reason
-        ensures { result ≡ case_reason self }
+impl From<CaseRefusal> for Reason {
+    ghost from_gives = { λ refusal reason. reason ≡ case_reason refusal };
+
+    fn from(refusal: CaseRefusal) -> Reason
+        ensures { result ≡ case_reason refusal }
     {
-        match self {
-            CaseRefusal::Line => Reason {
-                place: None,
-                id: None,
-                number: 1,
-                layer: 5,
-            },
-            CaseRefusal::Step { place, id, refusal } => Reason {
-                place,
-                id: Some(id),
-                number: match refusal {
+        let (number, layer, place, id) = match refusal {
+            CaseRefusal::Line => (1, 5, None, None),
+            CaseRefusal::Step { place, id, refusal } => {
+                let number = match refusal {
                     StepRefusal::Node => 30,
                     StepRefusal::State => 31,
-                },
-                layer: 6,
-            },
+                };
+                (number, 6, place, Some(id))
+            }
+        };
+        Reason {
+            place,
+            id,
+            number,
+            layer,
         }
     }
 }

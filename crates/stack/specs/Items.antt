@@ -1,12 +1,7 @@
 -- The values of a stack, the last pushed first. Assumes nothing.
---   items s       what the stack holds
 --   head, tail    the value on top, and what stands below it
 --   pushed v xs   with v on top, if there is room
-use Rattle.std.specs.Prelude.{cond, List, [], ◌∷◌, reverse, length, take, Some, None, Option, nat_lt}
-use Rattle.stack.specs.declared.Stack.{Stack}
-
-abbrev pub items : {T : Type 0} → Stack T → List T
-items s = reverse (take s.depth s.places)
+use Rattle.std.specs.Prelude.{cond, List, [], ◌∷◌, length, Some, None, Option, nat_lt}
 
 abbrev pub head : {T : Type 0} → List T → Option T
 head [] = None

@@ -1,13 +1,13 @@
 // What a stack can do.
-ghost use Rattle.std.specs.Prelude.{◌≡◌, List, [], ◌∷◌};
-ghost use Rattle.stack.specs.Items.{items, head, tail, pushed};
+ghost use Rattle.std.specs.Prelude.{◌≡◌, ◌≤◌, List, [], ◌∷◌, length};
+ghost use Rattle.stack.specs.Items.{head, tail, pushed};
 
 use crate::Stack;
 
 impl<T: Copy> Stack<T> {
     // An empty stack; `fill` stands in its unused places.
     pub fn new(fill: T) -> Stack<T>
-        ensures { items result ≡ [] }
+        ensures { result ≡ [] }
     {
         Stack {
             depth: 0,
@@ -17,18 +17,15 @@ impl<T: Copy> Stack<T> {
 
     // The value that was pushed last.
     pub fn top(&self) -> Option<T>
-        ensures { result ≡ head (items self.now) }
+        ensures value { result ≡ head self.now }
+        ensures few { length self.now ≤ 128 }
     {
-        if self.depth == 0 {
-            None
-        } else {
-            Some(self.places[self.depth - 1])
-        }
+        self.places[..self.depth].last().copied()
     }
 
     // Puts a value on top; a full stack stays as it is.
     pub fn push(&mut self, value: T)
-        ensures { items self.new ≡ pushed value (items self.old) }
+        ensures { self.new ≡ pushed value self.old }
     {
         if self.depth < 128 {
             self.places[self.depth] = value;
@@ -38,10 +35,8 @@ impl<T: Copy> Stack<T> {
 
     // Takes the value on top away, if there is one.
     pub fn pop(&mut self)
-        ensures { items self.new ≡ tail (items self.old) }
+        ensures { self.new ≡ tail self.old }
     {
-        if self.depth > 0 {
-            self.depth -= 1;
-        }
+        self.depth = self.depth.saturating_sub(1);
     }
 }
