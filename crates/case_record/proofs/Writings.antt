@@ -1,12 +1,13 @@
 -- Reading a case record inverts its writing.
-use Rattle.std.proofs.Common.{◌≡◌, ℕ, ◌*◌, ◌/◌, ◌%◌, ◌<◌, Bool, true, false, cond, ◌&&◌, eqb, List, [], ◌∷◌, length, Some, None, Option, sym, refl, ap, ◌∙◌, subst, arith}
+use Rattle.std.proofs.Common.{◌≡◌, ℕ, ◌*◌, ◌/◌, ◌%◌, ◌<◌, Bool, true, false, cond, ◌&&◌, eqb, List, [], ◌∷◌, length, Some, None, sym, refl, subst, arith}
 use Rattle.std.specs.List.{AllByRecursion}
 use Rattle.std.proofs.lemmas.Bool.{and_parts, eqb-true, eq-eqb}
-use Rattle.record.specs.Hex.{Byte, hex, decoded}
-use Rattle.record.proofs.Inverses.{never, decoding_inverts_hex}
+use Rattle.record.specs.Hex.{Byte}
+use Rattle.record.proofs.Inverses.{never}
+use Rattle.record.proofs.Formats.{inverts}
 use Rattle.case_record.specs.Entries.{entries_in, entry_bytes}
-use Rattle.case_record.specs.CaseRecords.{RawCase, Writable, Writing, case_bytes, count_of, number_of, read_case, read_decoded, case_in}
-use Rattle.case_record.specs.Laws.{LineOf, ReadingInvertsWriting}
+use Rattle.case_record.specs.CaseRecords.{RawCase, Writable, Writing, case_bytes, count_of, number_of, read_case, read_decoded}
+use Rattle.case_record.specs.Laws.{ReadingInvertsWriting}
 use Rattle.case_record.proofs.Triples.{threefold, count_entries, entries_in_bytes, bytes_of_entries, length_entry_bytes, all_entries, all_entry_bytes}
 
 -- the parts of a record, put together again
@@ -58,16 +59,4 @@ bytes_of_written c w =
     (omega arith, (third, (omega arith, (omega arith, (omega arith, (high, (omega arith, all_entry_bytes c.entries w.entries)))))))
 
 pub reading_inverts_writing : ReadingInvertsWriting
-reading_inverts_writing line c = (λ e. go (decoded line) refl e, back)
-  where
-    go : (o : Option (List ℕ)) → decoded line ≡ o → read_decoded o ≡ Some c → LineOf line c
-    go None eo j = never j
-    go (Some bs) eo j =
-        let of = (decoding_inverts_hex line bs).0 eo in
-        let from = written_from_read bs c of.0 j in
-        (from.0, of.3 ∙ ap hex from.1, of.2)
-
-    back : LineOf line c → case_in line ≡ Some c
-    back h =
-        let some : 0 < length (case_bytes c) = omega arith in
-        ap read_decoded ((decoding_inverts_hex line (case_bytes c)).1 (bytes_of_written c h.0, some, h.2, h.1)) ∙ read_from_written c
+reading_inverts_writing = inverts read_case case_bytes Writable read_from_written written_from_read read_decoded refl (λ _. refl) (λ c. omega arith) bytes_of_written

@@ -1,10 +1,14 @@
 -- Entries lying one after the other, three bytes each.
-use Rattle.std.specs.Prelude.{◌≡◌, ℕ, ◌*◌, List, [], ◌∷◌, length}
+use Rattle.std.specs.Prelude.{◌≡◌, ℕ, ◌*◌, List, [], ◌∷◌, length, slice_index_or}
 use Rattle.case_record.specs.declared.RawEntry.{RawEntry}
 
 -- an entry by its bytes
 abbrev pub entry_of : ℕ → ℕ → ℕ → RawEntry
 entry_of k i b = record { kind = k; id = i; branch = b }
+
+-- the same, of the bytes in a list
+abbrev pub entry_from : List ℕ → RawEntry
+entry_from bs = entry_of (slice_index_or bs 0 0) (slice_index_or bs 1 0) (slice_index_or bs 2 0)
 
 -- the entry of three zeros, which stands for one past the end
 abbrev pub zeros : RawEntry

@@ -3,10 +3,7 @@ use record::Record;
 use std::test::Fail;
 
 fn is_case(line: &[u8]) -> bool {
-    match Record::decode(line) {
-        Some(record) => CaseRecord::read(record.bytes()).is_some(),
-        None => false,
-    }
+    Record::try_from(line).is_ok_and(|record| CaseRecord::try_from(record.bytes()).is_ok())
 }
 
 fn entry(kind: u8, id: u8, branch: u8) -> RawEntry {
@@ -15,12 +12,9 @@ fn entry(kind: u8, id: u8, branch: u8) -> RawEntry {
 
 #[test]
 fn a_case_is_taken_apart(rt: HostRuntime) -> Result<(), Fail> {
-    let Some(record) = Record::decode(b"030000000700040101FF0201FF0102FF0103FF") else {
-        return Err(Fail::new("no record"));
-    };
-    let Some(case) = CaseRecord::read(record.bytes()) else {
-        return Err(Fail::new("no case"));
-    };
+    let line = b"030000000700040101FF0201FF0102FF0103FF";
+    let record = Record::try_from(line.as_slice())?;
+    let case = CaseRecord::try_from(record.bytes())?;
     assert_eq!(rt; case.number, 7);
     assert_eq!(rt; case.len(), 4);
     assert_eq!(rt; case.entry(1), Some(entry(2, 1, 255)));
@@ -32,12 +26,9 @@ fn a_case_is_taken_apart(rt: HostRuntime) -> Result<(), Fail> {
 
 #[test]
 fn a_case_may_have_no_entry(rt: HostRuntime) -> Result<(), Fail> {
-    let Some(record) = Record::decode(b"03010203040000") else {
-        return Err(Fail::new("no record"));
-    };
-    let Some(case) = CaseRecord::read(record.bytes()) else {
-        return Err(Fail::new("no case"));
-    };
+    let line = b"03010203040000";
+    let record = Record::try_from(line.as_slice())?;
+    let case = CaseRecord::try_from(record.bytes())?;
     assert_eq!(rt; case.number, 0x0102_0304);
     assert_eq!(rt; case.len(), 0);
     assert_eq!(rt; case.entry(0), None);

@@ -13,16 +13,17 @@ use std::io::BufRead;
 mod tests;
 
 // Takes a line's characters from the front of a chunk of input. Answers how many bytes were used, and whether
-// they end with the newline that ends the line.
+// they end with the newline that ends the line. Both are wanted either way: an `Option` of the count would leave it
+// to the caller to count what ends no line.
 pub fn fill(line: &mut LineBuffer, chunk: &[u8]) -> (usize, bool)
     ensures value { result ≡ parted 0 chunk.now }
     ensures after { held line.new ≡ filled (held line.old) chunk.now }
 {
-    for (i, character) in chunk.iter().enumerate() {
-        if *character == b'\n' {
+    for (i, &character) in chunk.iter().enumerate() {
+        if character == b'\n' {
             return (i + 1, true);
         }
-        line.push(*character);
+        line.push(character);
     }
     (chunk.len(), false)
 }
@@ -33,15 +34,13 @@ pub fn next_line<R: BufRead>(input: &mut R, line: &mut LineBuffer) -> io::Result
 {
     line.clear();
     let mut begun = false;
+    // a count, since input may never end and each loop is proved to end
     for _ in 0..u64::MAX {
+        // by arms: an interrupted read alone is tried again
         let chunk = match input.fill_buf() {
             Ok(chunk) => chunk,
-            Err(error) => {
-                if error.kind() == io::ErrorKind::Interrupted {
-                    continue;
-                }
-                return Err(error);
-            }
+            Err(error) if error.kind() == io::ErrorKind::Interrupted => continue,
+            Err(error) => return Err(error),
         };
         if chunk.is_empty() {
             return Ok(begun);

@@ -1,12 +1,13 @@
 -- Reading a plan record inverts its writing.
-use Rattle.std.proofs.Common.{◌≡◌, ℕ, ◌*◌, ◌<◌, Bool, true, false, cond, ◌&&◌, eqb, List, [], ◌∷◌, length, Some, None, Option, sym, refl, ap, ◌∙◌, subst, arith}
+use Rattle.std.proofs.Common.{◌≡◌, ℕ, ◌*◌, ◌<◌, Bool, true, false, cond, ◌&&◌, eqb, List, [], ◌∷◌, length, Some, None, sym, refl, subst, arith}
 use Rattle.std.specs.List.{AllByRecursion}
 use Rattle.std.proofs.lemmas.Bool.{and_parts, eqb-true, eq-eqb}
-use Rattle.record.specs.Hex.{Byte, hex, decoded}
-use Rattle.record.proofs.Inverses.{never, decoding_inverts_hex}
+use Rattle.record.specs.Hex.{Byte}
+use Rattle.record.proofs.Inverses.{never}
+use Rattle.record.proofs.Formats.{inverts}
 use Rattle.plan_record.specs.Changes.{changes_in, change_bytes}
-use Rattle.plan_record.specs.PlanRecords.{RawPlan, Writable, Writing, plan_bytes, read_plan, read_decoded, plan_in}
-use Rattle.plan_record.specs.Laws.{LineOf, ReadingInvertsWriting}
+use Rattle.plan_record.specs.PlanRecords.{RawPlan, Writable, Writing, plan_bytes, read_plan, read_decoded}
+use Rattle.plan_record.specs.Laws.{ReadingInvertsWriting}
 use Rattle.plan_record.proofs.Quadruples.{fourfold, count_changes, changes_in_bytes, bytes_of_changes, length_change_bytes, all_changes, all_change_bytes}
 
 -- the parts of a record, put together again
@@ -38,16 +39,4 @@ bytes_of_written : (p : RawPlan) → Writable p → AllByRecursion Byte (plan_by
 bytes_of_written p w = (omega arith, (w.few, all_change_bytes p.changes w.changes))
 
 pub reading_inverts_writing : ReadingInvertsWriting
-reading_inverts_writing line p = (λ e. go (decoded line) refl e, back)
-  where
-    go : (o : Option (List ℕ)) → decoded line ≡ o → read_decoded o ≡ Some p → LineOf line p
-    go None eo j = never j
-    go (Some bs) eo j =
-        let of = (decoding_inverts_hex line bs).0 eo in
-        let from = written_from_read bs p of.0 j in
-        (from.0, of.3 ∙ ap hex from.1, of.2)
-
-    back : LineOf line p → plan_in line ≡ Some p
-    back h =
-        let some : 0 < length (plan_bytes p) = omega arith in
-        ap read_decoded ((decoding_inverts_hex line (plan_bytes p)).1 (bytes_of_written p h.0, some, h.2, h.1)) ∙ read_from_written p
+reading_inverts_writing = inverts read_plan plan_bytes Writable read_from_written written_from_read read_decoded refl (λ _. refl) (λ p. omega arith) bytes_of_written

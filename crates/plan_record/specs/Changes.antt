@@ -1,10 +1,14 @@
 -- Changes lying one after the other, four bytes each.
-use Rattle.std.specs.Prelude.{◌≡◌, ℕ, ◌*◌, List, [], ◌∷◌, length}
+use Rattle.std.specs.Prelude.{◌≡◌, ℕ, ◌*◌, List, [], ◌∷◌, length, slice_index_or}
 use Rattle.plan_record.specs.declared.RawChange.{RawChange}
 
 -- a change by its bytes
 abbrev pub change_of : ℕ → ℕ → ℕ → ℕ → RawChange
 change_of k a b c = record { kind = k; a = a; b = b; c = c }
+
+-- the same, of the bytes in a list
+abbrev pub change_from : List ℕ → RawChange
+change_from bs = change_of (slice_index_or bs 0 0) (slice_index_or bs 1 0) (slice_index_or bs 2 0) (slice_index_or bs 3 0)
 
 -- the change of four zeros, which stands for one past the end
 abbrev pub zeros : RawChange

@@ -17,6 +17,19 @@ pub struct RawChange {
     pub c: u8,
 }
 
+// A change's bytes in their order.
+impl From<[u8; 4]> for RawChange {
+    ghost use Rattle.std.specs.Prelude.{◌≡◌};
+    ghost use Rattle.plan_record.specs.Changes.{change_from};
+
+    ghost from_gives = { λ bytes change. change ≡ change_from bytes };
+
+    fn from(bytes: [u8; 4]) -> RawChange {
+        let [kind, a, b, c] = bytes;
+        RawChange { kind, a, b, c }
+    }
+}
+
 // A plan record as it stands in a line.
 #[derive(Clone, Copy)]
 pub struct PlanRecord<'a> {

@@ -3,10 +3,7 @@ use record::Record;
 use std::test::Fail;
 
 fn is_plan(line: &[u8]) -> bool {
-    match Record::decode(line) {
-        Some(record) => PlanRecord::read(record.bytes()).is_some(),
-        None => false,
-    }
+    Record::try_from(line).is_ok_and(|record| PlanRecord::try_from(record.bytes()).is_ok())
 }
 
 fn change(kind: u8, a: u8, b: u8, c: u8) -> RawChange {
@@ -15,12 +12,9 @@ fn change(kind: u8, a: u8, b: u8, c: u8) -> RawChange {
 
 #[test]
 fn a_plan_is_taken_apart(rt: HostRuntime) -> Result<(), Fail> {
-    let Some(record) = Record::decode(b"0203010203FF02000010FF040506") else {
-        return Err(Fail::new("no record"));
-    };
-    let Some(plan) = PlanRecord::read(record.bytes()) else {
-        return Err(Fail::new("no plan"));
-    };
+    let line = b"0203010203FF02000010FF040506";
+    let record = Record::try_from(line.as_slice())?;
+    let plan = PlanRecord::try_from(record.bytes())?;
     assert_eq!(rt; plan.len(), 3);
     assert_eq!(rt; plan.change(0), Some(change(1, 2, 3, 255)));
     assert_eq!(rt; plan.change(1), Some(change(2, 0, 0, 16)));
@@ -32,12 +26,9 @@ fn a_plan_is_taken_apart(rt: HostRuntime) -> Result<(), Fail> {
 
 #[test]
 fn a_plan_may_have_no_change(rt: HostRuntime) -> Result<(), Fail> {
-    let Some(record) = Record::decode(b"0200") else {
-        return Err(Fail::new("no record"));
-    };
-    let Some(plan) = PlanRecord::read(record.bytes()) else {
-        return Err(Fail::new("no plan"));
-    };
+    let line = b"0200";
+    let record = Record::try_from(line.as_slice())?;
+    let plan = PlanRecord::try_from(record.bytes())?;
     assert_eq!(rt; plan.len(), 0);
     assert_eq!(rt; plan.change(0), None);
     Ok(())

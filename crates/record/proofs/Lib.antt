@@ -1,7 +1,8 @@
-pub mod Buffers
+pub mod Pieces
 pub mod Pairings
 pub mod Spellings
 pub mod Partings
 pub mod Inverses
+pub mod Formats
 pub mod Writings
 pub mod Meanings

@@ -1,6 +1,7 @@
 -- The bytes that characters spell, two characters at a time.
-use Rattle.std.proofs.Common.{◌≡◌, ℕ, ◌+◌, ◌*◌, ◌%◌, ◌<◌, ◌≤◌, Bool, true, false, cond, ◌||◌, eqb, ltb, List, [], ◌∷◌, ◌++◌, length, get_or, take, drop, set, Some, None, Option, sym, refl, ap, ◌∙◌, arith}
-use Rattle.std.proofs.lemmas.List.{append_assoc, append-nil, drop_more, drop_all, take_more_set}
+use Rattle.std.proofs.Common.{◌≡◌, ℕ, suc, ◌+◌, ◌/◌, ◌%◌, ◌<◌, ◌≤◌, Bool, true, false, cond, ◌||◌, eqb, ltb, List, [], ◌∷◌, ◌++◌, length, get_or, drop, Some, None, Option, sym, refl, ap, ◌∙◌, arith}
+use Rattle.std.specs.Simd.{first_chunks}
+use Rattle.std.proofs.lemmas.List.{append_assoc, append-nil, at_drop_more, at_drop_all}
 use Rattle.std.proofs.lemmas.Bool.{cond-true, cond-false, or_from, or_right, ne_eqb, le-ltb, lt-ltb}
 use Rattle.record.specs.Hex.{after, begun, byte_of, spelled, decoded}
 
@@ -8,28 +9,31 @@ pub after_after : (xs ys : List ℕ) (o : Option (List ℕ)) → after xs (after
 after_after xs ys None = refl
 after_after xs ys (Some zs) = ap Some (sym (append_assoc xs ys zs))
 
-drop_two : (cs : List ℕ) (i : ℕ) → 2 * i + 1 < length cs → drop (2 * i) cs ≡ get_or cs (2 * i) 0 ∷ get_or cs (2 * i + 1) 0 ∷ drop (2 * (i + 1)) cs
-drop_two cs i h =
-    let e : 2 * i + 1 + 1 ≡ 2 * (i + 1) = omega arith in
-    let first = drop_more cs (2 * i) 0 (omega arith) in
-    let second : drop (2 * i + 1) cs ≡ get_or cs (2 * i + 1) 0 ∷ drop (2 * (i + 1)) cs = rw (← e) (drop_more cs (2 * i + 1) 0 h) in
-    first ∙ ap (λ ds. get_or cs (2 * i) 0 ∷ ds) second
+-- the bytes that characters spell, two by two
+abbrev pub spelled_by : List (List ℕ) → Option (List ℕ)
+spelled_by [] = Some []
+spelled_by (p ∷ ps) = begun (byte_of (get_or p 0 0) (get_or p 1 0)) (spelled_by ps)
 
--- what is left to spell after i bytes begins with the next
-spelled_drop : (cs : List ℕ) (i : ℕ) (o : Option ℕ) → 2 * i + 1 < length cs → byte_of (get_or cs (2 * i) 0) (get_or cs (2 * i + 1) 0) ≡ o → spelled (drop (2 * i) cs) ≡ begun o (spelled (drop (2 * (i + 1)) cs))
-spelled_drop cs i o h e = ap spelled (drop_two cs i h) ∙ ap (λ (p : Option ℕ). begun p (spelled (drop (2 * (i + 1)) cs))) e
+pub spelled_chunks : (cs : List ℕ) → length cs % 2 ≡ 0 → spelled cs ≡ spelled_by (first_chunks 2 (length cs / 2) cs)
+spelled_chunks [] even = refl
+spelled_chunks (c ∷ []) even = absurd (omega arith)
+spelled_chunks (h ∷ l ∷ cs) even =
+    let more : length (h ∷ l ∷ cs) / 2 ≡ suc (length cs / 2) = omega arith in
+    rw (more, spelled_chunks cs (omega arith)) refl
 
-pub spelled_more : (cs bs : List ℕ) (i b : ℕ) → 2 * i + 1 < length cs → i < length bs → byte_of (get_or cs (2 * i) 0) (get_or cs (2 * i + 1) 0) ≡ Some b → after (take i bs) (spelled (drop (2 * i) cs)) ≡ after (take (i + 1) (set bs i b)) (spelled (drop (2 * (i + 1)) cs))
-spelled_more cs bs i b h k e =
-    ap (after (take i bs)) (spelled_drop cs i (Some b) h e)
-    ∙ after_after (take i bs) (b ∷ []) (spelled (drop (2 * (i + 1)) cs))
-    ∙ ap (λ xs. after xs (spelled (drop (2 * (i + 1)) cs))) (sym (take_more_set bs i b k))
+module _ (ps : List (List ℕ)) (i : ℕ) (within : i < length ps) where
+  -- what is left to spell after i bytes begins with the next
+  next : (o : Option ℕ) → byte_of (get_or (get_or ps i []) 0 0) (get_or (get_or ps i []) 1 0) ≡ o → spelled_by (drop i ps) ≡ begun o (spelled_by (drop (i + 1) ps))
+  next o e = at_drop_more spelled_by ps i [] within ∙ ap (λ (p : Option ℕ). begun p (spelled_by (drop (i + 1) ps))) e
 
-pub spelled_stops : (cs bs : List ℕ) (i : ℕ) → 2 * i + 1 < length cs → byte_of (get_or cs (2 * i) 0) (get_or cs (2 * i + 1) 0) ≡ None → after (take i bs) (spelled (drop (2 * i) cs)) ≡ None
-spelled_stops cs bs i h e = ap (after (take i bs)) (spelled_drop cs i None h e)
+  pub spelled_more : (bs : List ℕ) (b : ℕ) → byte_of (get_or (get_or ps i []) 0 0) (get_or (get_or ps i []) 1 0) ≡ Some b → after bs (spelled_by (drop i ps)) ≡ after (bs ++ b ∷ []) (spelled_by (drop (i + 1) ps))
+  spelled_more bs b e = ap (after bs) (next (Some b) e) ∙ after_after bs (b ∷ []) (spelled_by (drop (i + 1) ps))
 
-pub spelled_all : (cs bs : List ℕ) (i : ℕ) → length cs ≤ 2 * i → after (take i bs) (spelled (drop (2 * i) cs)) ≡ Some (take i bs)
-spelled_all cs bs i h = ap (λ ds. after (take i bs) (spelled ds)) (drop_all (2 * i) cs h) ∙ ap Some (append-nil (take i bs))
+  pub spelled_stops : (bs : List ℕ) → byte_of (get_or (get_or ps i []) 0 0) (get_or (get_or ps i []) 1 0) ≡ None → after bs (spelled_by (drop i ps)) ≡ None
+  spelled_stops bs e = ap (after bs) (next None e)
+
+pub spelled_all : (ps : List (List ℕ)) (bs : List ℕ) (i : ℕ) → length ps ≤ i → after bs (spelled_by (drop i ps)) ≡ Some bs
+spelled_all ps bs i h = ap (after bs) (at_drop_all spelled_by ps i h) ∙ ap Some (append-nil bs)
 
 pub spelled_odd : (cs : List ℕ) → length cs % 2 ≡ 1 → spelled cs ≡ None
 spelled_odd [] h = absurd (omega arith)

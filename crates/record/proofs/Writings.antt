@@ -4,11 +4,12 @@ use Rattle.std.specs.List.{AllByRecursion}
 use Rattle.std.proofs.ByRecursion.{All-append, All-take, All-drop}
 use Rattle.std.proofs.lemmas.List.{take_at, drop_at, take-append-drop, length-append, length-take-le}
 use Rattle.std.proofs.lemmas.Bool.{and_parts, cond-true, eqb-true, eq-eqb, leb-true, le-leb}
-use Rattle.record.specs.Hex.{Byte, hex, decoded}
+use Rattle.record.specs.Hex.{Byte}
 use Rattle.record.specs.Pairs.{pairs, unpaired}
-use Rattle.record.specs.SchemaRecords.{RawSchema, Writable, Writing, schema_bytes, schema_line, edges_in, with_edges, read_schema, read_decoded, schema_in}
+use Rattle.record.specs.SchemaRecords.{RawSchema, Writable, Writing, schema_bytes, edges_in, with_edges, read_schema, read_decoded}
 use Rattle.record.specs.Laws.{ReadingInvertsWriting}
-use Rattle.record.proofs.Inverses.{never, decoding_inverts_hex}
+use Rattle.record.proofs.Inverses.{never}
+use Rattle.record.proofs.Formats.{inverts}
 use Rattle.record.proofs.Pairings.{paired, count_pairs, pairs_unpaired, unpaired_pairs, length_unpaired, all_pairs, all_unpaired}
 
 edges_inverse : (ys es : List ℕ) → edges_in ys ≡ Some es → (m : ℕ) × (ys ≡ m ∷ es) × (length es ≡ 2 * m)
@@ -98,16 +99,4 @@ bytes_of_written s w = (
 )
 
 pub reading_inverts_writing : ReadingInvertsWriting
-reading_inverts_writing line s = (λ e. go (decoded line) refl e, back)
-  where
-    go : (o : Option (List ℕ)) → decoded line ≡ o → read_decoded o ≡ Some s → Writable s × (line ≡ schema_line s) × (length line ≤ 1024)
-    go None eo j = never j
-    go (Some bs) eo j =
-        let of = (decoding_inverts_hex line bs).0 eo in
-        let from = written_from_read bs s of.0 j in
-        (from.0, of.3 ∙ ap hex from.1, of.2)
-
-    back : Writable s × (line ≡ schema_line s) × (length line ≤ 1024) → schema_in line ≡ Some s
-    back h =
-        let some : 0 < length (schema_bytes s) = omega arith in
-        ap read_decoded ((decoding_inverts_hex line (schema_bytes s)).1 (bytes_of_written s h.0, some, h.2, h.1)) ∙ read_from_written s
+reading_inverts_writing = inverts read_schema schema_bytes Writable read_from_written written_from_read read_decoded refl (λ _. refl) (λ s. omega arith) bytes_of_written

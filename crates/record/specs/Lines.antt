@@ -1,5 +1,5 @@
 -- What a line buffer holds of the line that comes in.
-use Rattle.std.specs.Prelude.{ℕ, cond, List, [], ◌∷◌, ◌++◌, length, take, Some, None, Option, nat_le, nat_lt}
+use Rattle.std.specs.Prelude.{ℕ, cond, List, [], ◌∷◌, ◌++◌, length, Some, None, Option, nat_le, nat_lt}
 use Rattle.record.specs.declared.LineBuffer.{LineBuffer}
 
 -- the whole line so far, or only that it is too long
@@ -23,4 +23,4 @@ whole_line Overlong = None
 
 -- what a buffer holds
 abbrev pub held : LineBuffer → Held
-held b = cond b.overlong Overlong (Short (take b.len b.chars))
+held b = held_of b.chars.items

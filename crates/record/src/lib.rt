@@ -1,8 +1,9 @@
 // Lines and the records that they spell.
 #![tactic(auto)]
 
-ghost use Rattle.std.specs.Prelude.{◌≡◌, ◌≤◌, length};
+ghost use Rattle.std.specs.Prelude.{◌≤◌, length};
 
+mod items;
 mod laws;
 mod lines;
 mod records;
@@ -10,28 +11,46 @@ mod schemas;
 #[cfg(test)]
 mod tests;
 
+use arrayvec::ArrayVec;
+pub use items::item;
 pub use laws::{decoding_inverts_hex, reading_inverts_writing};
-pub use schemas::{SchemaRecord, pair};
+use model::refusal::SchemaRefusal;
+pub use schemas::{SchemaRecord, pair, pairs};
 
 // How many characters a line may have.
 pub const LINE_LIMIT: usize = 1024;
 
-// The bytes that a line spells: at most 512, two characters each.
-#[derive(Drop)]
-pub struct Record {
-    bytes: [u8; 512],
-    len: usize,
-    ghost fits: { len ≤ 512 },
-    ghost long: { length bytes ≡ 512 },
+// How many bytes it then spells, two characters each.
+const RECORD_LIMIT: usize = LINE_LIMIT / 2;
+
+// How many characters are held of a line: with one more than it may have, the line is too long.
+const HELD_LIMIT: usize = LINE_LIMIT + 1;
+
+// What was given is not the writing of what was to be read.
+#[derive(Clone, Copy, PartialEq, Eq, Debug)]
+pub struct Malformed;
+
+// A schema line is then refused as a line.
+impl From<Malformed> for SchemaRefusal {
+    ghost use Rattle.std.specs.Prelude.{◌≡◌};
+    ghost use Rattle.model.specs.declared.refusal.SchemaRefusal.TheVariants.{Line};
+
+    ghost from_gives = { λ _ refusal. refusal ≡ Line };
+
+    fn from(_malformed: Malformed) -> SchemaRefusal {
+        SchemaRefusal::Line
+    }
 }
 
-// A line as it comes in, of which at most `LINE_LIMIT` characters are held.
+// The bytes that a line spells.
+#[derive(Drop)]
+pub struct Record {
+    bytes: ArrayVec<u8, RECORD_LIMIT>,
+    ghost fits: { length bytes.items ≤ 512 },
+}
+
+// A line as it comes in. Of a line that is too long, the first characters are held.
 #[derive(Drop)]
 pub struct LineBuffer {
-    chars: [u8; 1024],
-    len: usize,
-    // more characters came than are held
-    overlong: bool,
-    ghost fits: { len ≤ 1024 },
-    ghost long: { length chars ≡ 1024 },
+    chars: ArrayVec<u8, HELD_LIMIT>,
 }

@@ -3,16 +3,15 @@ ghost use Rattle.std.specs.Prelude.{◌≡◌, ℕ, List, [], ◌∷◌, ◌++�
 ghost use Rattle.std.specs.Option.{option_map};
 ghost use Rattle.record.specs.Lines.{Short, held, held_of, pushed, whole_line};
 
-use crate::{LINE_LIMIT, LineBuffer};
+use crate::LineBuffer;
+use arrayvec::ArrayVec;
 
 impl LineBuffer {
     pub fn new() -> LineBuffer
         ensures { held result ≡ Short [] }
     {
         LineBuffer {
-            chars: [0; LINE_LIMIT],
-            len: 0,
-            overlong: false,
+            chars: ArrayVec::new(),
         }
     }
 
@@ -20,8 +19,7 @@ impl LineBuffer {
     pub fn clear(&mut self)
         ensures { held self.new ≡ Short [] }
     {
-        self.len = 0;
-        self.overlong = false;
+        self.chars.clear();
     }
 
     // One more character of the line. A line that is once too long stays so.
@@ -29,11 +27,8 @@ impl LineBuffer {
         ensures value { held self.new ≡ pushed (held self.old) character }
         ensures grows { (cs : List ℕ) → held self.old ≡ held_of cs → held self.new ≡ held_of (cs ++ character ∷ []) }
     {
-        if self.len < LINE_LIMIT {
-            self.chars[self.len] = character;
-            self.len += 1;
-        } else {
-            self.overlong = true;
+        if !self.chars.is_full() {
+            self.chars.push(character);
         }
     }
 
@@ -41,10 +36,10 @@ impl LineBuffer {
     pub fn line(&self) -> Option<&[u8]>
         ensures { option_map (λ x. x.now) result ≡ whole_line (held self.now) }
     {
-        if self.overlong {
+        if self.chars.is_full() {
             None
         } else {
-            Some(&self.chars[0..self.len])
+            Some(self.chars.as_slice())
         }
     }
 }

@@ -1,10 +1,10 @@
 // Reading a line's hexadecimal.
-ghost use Rattle.std.specs.Prelude.{◌≡◌};
-ghost use Rattle.std.specs.Option.{option_map};
-ghost use Rattle.record.specs.Hex.{byte_of, decoded, digit_value};
-ghost use Rattle.record.specs.Records.{record_bytes, Spelled};
+ghost use Rattle.std.specs.Prelude.{◌≡◌, ◌≤◌, length};
+ghost use Rattle.record.specs.Hex.{byte_of, digit_value};
+ghost use Rattle.record.specs.Records.{record_bytes, DecodesTo};
 
-use crate::{LINE_LIMIT, Record};
+use crate::{LINE_LIMIT, Malformed, Record};
+use arrayvec::ArrayVec;
 
 // What an upper-case hexadecimal digit stands for; any other character is none.
 fn digit_value(character: u8) -> Option<u8>
@@ -20,35 +20,32 @@ fn digit_value(character: u8) -> Option<u8>
 fn byte_of(high: u8, low: u8) -> Option<u8>
     ensures { result ≡ byte_of high low }
 {
-    match (digit_value(high), digit_value(low)) {
-        (Some(h), Some(l)) => Some(16 * h + l),
-        _ => None,
+    Some(16 * digit_value(high)? + digit_value(low)?)
+}
+
+// The record that a line spells, if it is hexadecimal of at least one byte and not too long.
+impl TryFrom<&[u8]> for Record {
+    type Error = Malformed;
+
+    ghost try_from_gives = { λ line r. DecodesTo line.now r };
+
+    fn try_from(line: &[u8]) -> Result<Record, Malformed> {
+        if line.is_empty() || line.len() % 2 != 0 || line.len() > LINE_LIMIT {
+            return Err(Malformed);
+        }
+        let mut bytes = ArrayVec::new();
+        for &[high, low] in line.as_chunks::<2>().0 {
+            bytes.push(byte_of(high, low).ok_or(Malformed)?);
+        }
+        Ok(Record { bytes })
     }
 }
 
 impl Record {
-    // The record that a line spells, if it is hexadecimal of at least one byte and not too long.
-    pub fn decode(line: &[u8]) -> Option<Record>
-        ensures value { option_map record_bytes result ≡ decoded line.now }
-        ensures spelled { Spelled line.now result }
-    {
-        if line.is_empty() || line.len() % 2 != 0 || line.len() > LINE_LIMIT {
-            return None;
-        }
-        let len = line.len() / 2;
-        let mut bytes = [0; 512];
-        for i in 0..len {
-            match byte_of(line[2 * i], line[2 * i + 1]) {
-                Some(byte) => bytes[i] = byte,
-                None => return None,
-            }
-        }
-        Some(Record { bytes, len })
-    }
-
     pub fn bytes(&self) -> &[u8]
-        ensures { result.now ≡ record_bytes self.now }
+        ensures bytes { result.now ≡ record_bytes self.now }
+        ensures few { length result.now ≤ 512 }
     {
-        &self.bytes[0..self.len]
+        self.bytes.as_slice()
     }
 }

@@ -1,10 +1,12 @@
 // A schema record, taken apart.
-ghost use Rattle.std.specs.Prelude.{◌≡◌, ◌<◌, ◌≤◌, length, IfSome, MatchOption, slice_index_or};
+ghost use Rattle.std.specs.Prelude.{◌≡◌, ◌<◌, ◌≤◌, map, length, IfSome, MatchOption, slice_index_or};
 ghost use Rattle.std.specs.Option.{option_map};
 ghost use Rattle.std.specs.List.{slice_get};
-ghost use Rattle.record.specs.Pairs.{pairs, Paired};
-ghost use Rattle.record.specs.SchemaRecords.{edges_in, read_schema};
-ghost use Rattle.record.specs.Readings.{raw, Whole, Written};
+ghost use Rattle.record.specs.Pairs.{pair_of, pairs, Paired};
+ghost use Rattle.record.specs.SchemaRecords.{edges_in};
+ghost use Rattle.record.specs.Readings.{ReadsTo};
+
+use crate::Malformed;
 
 // A schema record as it stands in a line; nothing of it is judged yet.
 #[derive(Clone, Copy)]
@@ -16,31 +18,24 @@ pub struct SchemaRecord<'a> {
     pub edges: &'a [u8],
 }
 
-impl<'a> SchemaRecord<'a> {
-    // Takes a record apart, if it is a schema record and just as long as its counts say.
-    pub fn read(bytes: &'a [u8]) -> Option<SchemaRecord<'a>>
-        ensures value { option_map raw result ≡ read_schema bytes.now }
-        ensures whole { IfSome result Whole }
-        ensures written { Written bytes.now result }
-    {
-        match bytes {
-            [1, high, low, count, rest @ ..] => {
-                let size = 2 * *count as usize;
-                if rest.len() < size {
-                    return None;
-                }
-                let (elements, rest) = rest.split_at(size);
-                match edges_in(rest) {
-                    Some(edges) => Some(SchemaRecord {
-                        version: *high as u16 * 256 + *low as u16,
-                        elements,
-                        edges,
-                    }),
-                    None => None,
-                }
-            }
-            _ => None,
-        }
+// Takes a record apart, if it is a schema record and just as long as its counts say.
+impl<'a> TryFrom<&'a [u8]> for SchemaRecord<'a> {
+    type Error = Malformed;
+
+    ghost try_from_gives = { λ bytes r. ReadsTo bytes.now r };
+
+    fn try_from(bytes: &'a [u8]) -> Result<SchemaRecord<'a>, Malformed> {
+        let [1, high, low, count, rest @ ..] = bytes else {
+            return Err(Malformed);
+        };
+        let length = 2 * usize::from(*count);
+        let (elements, rest) = rest.split_at_checked(length).ok_or(Malformed)?;
+        let edges = edges_in(rest).ok_or(Malformed)?;
+        Ok(SchemaRecord {
+            version: u16::from_be_bytes([*high, *low]),
+            elements,
+            edges,
+        })
     }
 }
 
@@ -50,19 +45,23 @@ fn edges_in(bytes: &[u8]) -> Option<&[u8]>
     ensures whole { IfSome result (λ edges. Paired edges.now) }
 {
     match bytes {
-        [count, edges @ ..] if edges.len() == 2 * *count as usize => Some(edges),
+        [count, edges @ ..] if edges.len() == 2 * usize::from(*count) => Some(edges),
         _ => None,
     }
 }
 
-// The i-th pair of bytes that lie two by two.
+// Bytes that lie two by two; a lone last byte is dropped.
+pub fn pairs(bytes: &[u8]) -> &[[u8; 2]]
+    ensures { map pair_of result.now ≡ pairs bytes.now }
+{
+    bytes.as_chunks::<2>().0
+}
+
+// The i-th pair of them; none past the end.
 pub fn pair(bytes: &[u8], i: usize) -> Option<(u8, u8)>
     ensures value { result ≡ slice_get (pairs bytes.now) i }
     ensures cases { MatchOption result (length (pairs bytes.now) ≤ i) (λ p. (i < length (pairs bytes.now)) × (p ≡ slice_index_or (pairs bytes.now) i (0, 0))) }
 {
-    if i < bytes.len() / 2 {
-        Some((bytes[2 * i], bytes[2 * i + 1]))
-    } else {
-        None
-    }
+    let [first, second] = *pairs(bytes).get(i)?;
+    Some((first, second))
 }

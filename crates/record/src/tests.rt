@@ -2,20 +2,14 @@ use crate::{LineBuffer, Record, SchemaRecord, pair};
 use std::test::Fail;
 
 fn is_schema(line: &[u8]) -> bool {
-    match Record::decode(line) {
-        Some(record) => SchemaRecord::read(record.bytes()).is_some(),
-        None => false,
-    }
+    Record::try_from(line).is_ok_and(|record| SchemaRecord::try_from(record.bytes()).is_ok())
 }
 
 #[test]
 fn a_schema_is_taken_apart(rt: HostRuntime) -> Result<(), Fail> {
-    let Some(record) = Record::decode(b"01000107010102FF010203FF010304FF010400") else {
-        return Err(Fail::new("no record"));
-    };
-    let Some(schema) = SchemaRecord::read(record.bytes()) else {
-        return Err(Fail::new("no schema"));
-    };
+    let line = b"01000107010102FF010203FF010304FF010400";
+    let record = Record::try_from(line.as_slice())?;
+    let schema = SchemaRecord::try_from(record.bytes())?;
     assert_eq!(rt; schema.version, 1);
     assert_eq!(rt; schema.elements.len(), 14);
     assert_eq!(rt; schema.edges.len(), 0);
@@ -52,10 +46,7 @@ fn a_long_line_is_refused(rt: HostRuntime) {
 }
 
 fn held(buffer: &LineBuffer) -> Option<usize> {
-    match buffer.line() {
-        Some(line) => Some(line.len()),
-        None => None,
-    }
+    buffer.line().map(|line| line.len())
 }
 
 #[test]
