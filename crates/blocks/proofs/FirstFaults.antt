@@ -1,15 +1,13 @@
 -- The place of a fault is the first that nothing mends. Assumes nothing.
-use Rattle.std.proofs.Common.{◌≡◌, ℕ, suc, ◌+◌, ◌<◌, ◌≤◌, Bool, true, false, cond, ltb, List, [], ◌∷◌, ◌++◌, length, take, Some, None, Option, Result, sym, refl, ap, ◌∙◌, subst, arith, ltb-false, lt-ltb}
+use Rattle.std.proofs.Common.{◌≡◌, ℕ, suc, ◌+◌, ◌<◌, ◌≤◌, cond, ltb, List, [], ◌∷◌, ◌++◌, length, take, drop, ◌-◌, length-drop, Some, None, Option, Result, sym, refl, ap, ◌∙◌, subst, arith}
+use Rattle.std.proofs.lemmas.Option.{none-some}
 use Rattle.model.specs.declared.Element.{Element}
 use Rattle.model.specs.declared.Element.TheVariants.{Bar, AndJoin, XorJoin, LoopEnd}
 use Rattle.blocks.specs.declared.Frame.{Frame}
 use Rattle.blocks.specs.declared.Frame.TheVariants.{And, Xor, Loop}
-use Rattle.blocks.specs.Blocks.{fault, opens, else_at, at_end, verdict}
+use Rattle.blocks.specs.Blocks.{fault, opens, else_at, at_end, verdict, Ends}
 use Rattle.model.specs.Trees.{First, Tells}
-use Rattle.blocks.proofs.RowsOfTrees.{tells_ok, tree_clean}
-
-abbrev Clean : List Frame → List Element → Type 0
-Clean s xs = (p : ℕ) → fault s p xs ≡ None
+use Rattle.blocks.proofs.RowsOfTrees.{Clean, tells_ok, tree_clean}
 
 -- what closes these blocks
 abbrev closing : List Frame → List Element
@@ -18,21 +16,11 @@ closing (And k ∷ s) = cond (ltb 0 k) (AndJoin ∷ closing s) (Bar ∷ AndJoin 
 closing (Xor k ∷ s) = cond (ltb 0 k) (XorJoin ∷ closing s) (Bar ∷ XorJoin ∷ closing s)
 closing (Loop ∷ s) = LoopEnd 0 ∷ closing s
 
-closes_and : (b : Bool) (k : ℕ) (s : List Frame) (ys : List Element) → ltb 0 k ≡ b → Clean s ys → Clean (And k ∷ s) (cond b (AndJoin ∷ ys) (Bar ∷ AndJoin ∷ ys))
-closes_and true k s ys e c p = rw e (c (p + 1))
-closes_and false k s ys e c p =
-    rw (lt-ltb k 7 (omega (arith, ltb-false 0 k e)), lt-ltb 0 (k + 1) (omega arith)) (c (p + 1 + 1))
-
-closes_xor : (b : Bool) (k : ℕ) (s : List Frame) (ys : List Element) → ltb 0 k ≡ b → Clean s ys → Clean (Xor k ∷ s) (cond b (XorJoin ∷ ys) (Bar ∷ XorJoin ∷ ys))
-closes_xor true k s ys e c p = rw e (c (p + 1))
-closes_xor false k s ys e c p =
-    rw (lt-ltb k 7 (omega (arith, ltb-false 0 k e)), lt-ltb 0 (k + 1) (omega arith)) (c (p + 1 + 1))
-
 closed : (s : List Frame) → Clean s (closing s)
-closed [] = λ p. refl
-closed (And k ∷ s) = closes_and (ltb 0 k) k s (closing s) refl (closed s)
-closed (Xor k ∷ s) = closes_xor (ltb 0 k) k s (closing s) refl (closed s)
-closed (Loop ∷ s) = λ p. closed s (p + 1)
+closed [] p = refl
+closed (And k ∷ s) p = grind (arith, closed s)
+closed (Xor k ∷ s) p = grind (arith, closed s)
+closed (Loop ∷ s) p = closed s (p + 1)
 
 -- Where the rest of a row is refused: after k more elements.
 record Stop (s : List Frame) (xs : List Element) (p q : ℕ) : Type 0 where
@@ -81,9 +69,6 @@ stop : (xs : List Element) (s : List Frame) (p q : ℕ) → fault s p xs ≡ Som
 stop [] s p q e = stop_end s p q e
 stop (x ∷ xs) s p q e = stop_at x xs s p q (opens x s) refl (λ t. stop xs t (p + 1) q) e
 
-some_none : (p : ℕ) (o : Option ℕ) → o ≡ Some p → o ≡ None → ⊥
-some_none p o e f = let z : ◌≡◌ {A = ℕ} 0 1 = cc in omega arith
-
 pub first : (xs : List Element) (p : ℕ) → fault [] 0 xs ≡ Some p → First xs p
 first xs p e =
     let st = stop xs [] 0 p e in
@@ -92,8 +77,8 @@ first xs p e =
     (record {
       within = st.within;
       good = (st.rest, tells_ok _ (st.good 0));
-      bad = λ h more. some_none _ _ (st.bad h more.0 0) (tree_clean _ more.1);
-      open_end = λ n. some_none _ _ e (tree_clean xs n);
+      bad = λ h more. none-some _ (sym (tree_clean _ more.1) ∙ st.bad h more.0 0);
+      open_end = λ n. none-some _ (sym (tree_clean xs n) ∙ e);
     })
 
 tells : (xs : List Element) (o : Option ℕ) → fault [] 0 xs ≡ o → Tells xs (verdict o)
@@ -102,3 +87,11 @@ tells xs (Some p) e = first xs p e
 
 pub told : (xs : List Element) (r : Result (Unit {0}) ℕ) → r ≡ verdict (fault [] 0 xs) → Tells xs r
 told xs r e = subst (Tells xs) (sym e) (tells xs (fault [] 0 xs) refl)
+
+-- where no block is open, an element that begins no item is refused
+pub refused_outside : (xs : List Element) (p : ℕ) → p < length xs → Ends (drop p xs) → fault [] p (drop p xs) ≡ Some p
+refused_outside xs p within e = go (drop p xs) (length-drop p xs) e
+  where
+    go : (ys : List Element) → length ys ≡ length xs - p → Ends ys → fault [] p ys ≡ Some p
+    go [] l e = absurd (omega arith)
+    go (y ∷ ys) l e = rw e refl

@@ -1,3 +1,2 @@
 pub mod RowsOfTrees
 pub mod FirstFaults
-pub mod CheckSteps

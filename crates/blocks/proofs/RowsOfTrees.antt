@@ -1,11 +1,11 @@
 -- The check passes exactly the rows of trees. Assumes nothing.
-use Rattle.std.proofs.Common.{◌≡◌, ℕ, ◌+◌, ◌<◌, ◌≤◌, Bool, true, false, cond, ltb, List, [], ◌∷◌, Some, None, Option, sym, refl, ap, ◌∙◌, subst, arith, ltb-true, lt-ltb}
+use Rattle.std.proofs.Common.{◌≡◌, ℕ, ◌+◌, ◌<◌, ◌≤◌, Bool, true, false, cond, ltb, List, [], ◌∷◌, Some, None, Option, sym, refl, ap, ◌∙◌, subst, arith, ltb-true}
+use Rattle.std.proofs.lemmas.Option.{none-some}
 use Rattle.model.specs.declared.Element.{Element}
 use Rattle.model.specs.declared.Element.TheVariants.{Activity, AndSplit, Bar, AndJoin, XorSplit, XorJoin, LoopStart, LoopEnd}
 use Rattle.blocks.specs.declared.Frame.{Frame}
 use Rattle.blocks.specs.declared.Frame.TheVariants.{And, Xor, Loop}
 use Rattle.blocks.specs.declared.Next.{Next}
-use Rattle.blocks.specs.declared.Next.TheVariants.{Branch, Closed, Refused}
 use Rattle.blocks.specs.Blocks.{fault, else_at, moved}
 use Rattle.model.specs.Trees.{Seq, nil, cons, Item, activity, loop, and, xor, Branches, last, bar, spell, spell_item, spell_branches, count, Width, Wide, WideItem, WideBranches, Nested}
 
@@ -49,11 +49,11 @@ join_fits : (k : ℕ) → 0 < k → Fits k (last nil)
 join_fits k h = (omega arith, λ (few : k ≤ 7). omega arith, tt)
 
 never : {A : Type 0} (p : ℕ) → ◌≡◌ {A = Option ℕ} (Some p) None → A
-never p e = absurd (let z : ◌≡◌ {A = ℕ} 0 1 = cc in omega arith)
+never p e = absurd (none-some p (sym e))
 
 -- the two answers of a test
-by_test : {P : Type 0} (b : Bool) (n : Next) (p : ℕ) (s : List Frame) (k : List Frame → Option ℕ)
-    → (b ≡ true → else_at p (moved n s) k ≡ None → P) → else_at p (moved (cond b n Refused) s) k ≡ None → P
+by_test : {P : Type 0} (b : Bool) (n : Option Next) (p : ℕ) (s : List Frame) (k : List Frame → Option ℕ)
+    → (b ≡ true → else_at p (moved n s) k ≡ None → P) → else_at p (moved (cond b n None) s) k ≡ None → P
 by_test true n p s k f e = f refl e
 by_test false n p s k f e = never p e
 
@@ -100,23 +100,12 @@ parse (LoopEnd i ∷ xs) (Xor k ∷ s) p e = never p e
 parse (LoopEnd i ∷ xs) (Loop ∷ s) p e = (nil, i, xs, tt, refl, parse xs s (p + 1) e)
 
 -- no fault, from whatever place
-abbrev Clean : List Frame → List Element → Type 0
+abbrev pub Clean : List Frame → List Element → Type 0
 Clean s xs = (p : ℕ) → fault s p xs ≡ None
-
-passed : (b : Bool) (n : Next) (s : List Frame) (xs : List Element) → b ≡ true
-    → ((p : ℕ) → else_at p (moved n s) (λ t. fault t (p + 1) xs) ≡ None)
-    → (p : ℕ) → else_at p (moved (cond b n Refused) s) (λ t. fault t (p + 1) xs) ≡ None
-passed b n s xs e h p = subst (λ c. else_at p (moved (cond c n Refused) s) (λ t. fault t (p + 1) xs) ≡ None) (sym e) (h p)
 
 positive : (b : Branches) → 1 ≤ count b
 positive (last t) = omega arith
 positive (bar t b) = omega arith
-
-room : (k : ℕ) (b : Branches) → Width (k + (1 + count b)) → k < 7
-room k b f = omega (arith, positive b)
-
-widen : (k : ℕ) (b : Branches) → Width (k + (1 + count b)) → Width (k + 1 + count b)
-widen k b f = omega arith
 
 mutual
   clean : (t : Seq) → Wide t → (s : List Frame) (ys : List Element) → Clean s ys → Clean s (spell t ys)
@@ -130,18 +119,14 @@ mutual
   clean_item (xor i b) w s ys c p = clean_xor b 0 (omega arith) w.1 s ys c (p + 1)
 
   clean_and : (b : Branches) (k : ℕ) → Width (k + count b) → WideBranches b → (s : List Frame) (ys : List Element) → Clean s ys → Clean (And k ∷ s) (spell_branches b (AndJoin ∷ ys))
-  clean_and (last t) k f w s ys c = clean t w (And k ∷ s) (AndJoin ∷ ys)
-      (passed (ltb 0 k) Closed s ys (lt-ltb 0 k (omega arith)) (λ p. c (p + 1)))
-  clean_and (bar t b) k f w s ys c = clean t w.0 (And k ∷ s) (Bar ∷ spell_branches b (AndJoin ∷ ys))
-      (passed (ltb k 7) (Branch (And (k + 1))) s (spell_branches b (AndJoin ∷ ys)) (lt-ltb k 7 (room k b f))
-      (λ p. clean_and b (k + 1) (widen k b f) w.1 s ys c (p + 1)))
+  clean_and (last t) k f w s ys c = clean t w (And k ∷ s) (AndJoin ∷ ys) (λ p. grind (arith, c (p + 1)))
+  clean_and (bar t b) k f w s ys c =
+      clean t w.0 (And k ∷ s) (Bar ∷ spell_branches b (AndJoin ∷ ys)) (λ p. grind (arith, positive b, clean_and b (k + 1) (omega arith) w.1 s ys c (p + 1)))
 
   clean_xor : (b : Branches) (k : ℕ) → Width (k + count b) → WideBranches b → (s : List Frame) (ys : List Element) → Clean s ys → Clean (Xor k ∷ s) (spell_branches b (XorJoin ∷ ys))
-  clean_xor (last t) k f w s ys c = clean t w (Xor k ∷ s) (XorJoin ∷ ys)
-      (passed (ltb 0 k) Closed s ys (lt-ltb 0 k (omega arith)) (λ p. c (p + 1)))
-  clean_xor (bar t b) k f w s ys c = clean t w.0 (Xor k ∷ s) (Bar ∷ spell_branches b (XorJoin ∷ ys))
-      (passed (ltb k 7) (Branch (Xor (k + 1))) s (spell_branches b (XorJoin ∷ ys)) (lt-ltb k 7 (room k b f))
-      (λ p. clean_xor b (k + 1) (widen k b f) w.1 s ys c (p + 1)))
+  clean_xor (last t) k f w s ys c = clean t w (Xor k ∷ s) (XorJoin ∷ ys) (λ p. grind (arith, c (p + 1)))
+  clean_xor (bar t b) k f w s ys c =
+      clean t w.0 (Xor k ∷ s) (Bar ∷ spell_branches b (XorJoin ∷ ys)) (λ p. grind (arith, positive b, clean_xor b (k + 1) (omega arith) w.1 s ys c (p + 1)))
 
 pub tells_ok : (xs : List Element) → fault [] 0 xs ≡ None → Nested xs
 tells_ok xs e = parse xs [] 0 e

@@ -9,69 +9,69 @@ use Rattle.model.specs.declared.Element.TheVariants.{Activity, AndSplit, Bar, An
 use Rattle.blocks.specs.declared.Frame.{Frame}
 use Rattle.blocks.specs.declared.Frame.TheVariants.{And, Xor, Loop}
 use Rattle.blocks.specs.declared.Start.{Start}
-use Rattle.blocks.specs.declared.Start.TheVariants.{Block, Nothing}
+use Rattle.blocks.specs.declared.Start.TheVariants.{Block}
 use Rattle.blocks.specs.declared.Next.{Next}
-use Rattle.blocks.specs.declared.Next.TheVariants.{Branch, Closed, Refused}
+use Rattle.blocks.specs.declared.Next.TheVariants.{Branch, Closed}
 
 -- After seven bars the eighth branch is the last that a block may have.
-abbrev pub meets_bar : Frame → Next
-meets_bar (And k) = cond (nat_lt k 7) (Branch (And (k + 1))) Refused
-meets_bar (Xor k) = cond (nat_lt k 7) (Branch (Xor (k + 1))) Refused
-meets_bar Loop = Refused
+abbrev pub meets_bar : Frame → Option Next
+meets_bar (And k) = cond (nat_lt k 7) (Some (Branch (And (k + 1)))) None
+meets_bar (Xor k) = cond (nat_lt k 7) (Some (Branch (Xor (k + 1)))) None
+meets_bar Loop = None
 
 -- A join closes a block of its own kind, once that has a second branch.
-abbrev pub meets_and_join : Frame → Next
-meets_and_join (And k) = cond (nat_lt 0 k) Closed Refused
-meets_and_join (Xor k) = Refused
-meets_and_join Loop = Refused
+abbrev pub meets_and_join : Frame → Option Next
+meets_and_join (And k) = cond (nat_lt 0 k) (Some Closed) None
+meets_and_join (Xor k) = None
+meets_and_join Loop = None
 
-abbrev pub meets_xor_join : Frame → Next
-meets_xor_join (And k) = Refused
-meets_xor_join (Xor k) = cond (nat_lt 0 k) Closed Refused
-meets_xor_join Loop = Refused
+abbrev pub meets_xor_join : Frame → Option Next
+meets_xor_join (And k) = None
+meets_xor_join (Xor k) = cond (nat_lt 0 k) (Some Closed) None
+meets_xor_join Loop = None
 
-abbrev pub meets_loop_end : Frame → Next
-meets_loop_end (And k) = Refused
-meets_loop_end (Xor k) = Refused
-meets_loop_end Loop = Closed
+abbrev pub meets_loop_end : Frame → Option Next
+meets_loop_end (And k) = None
+meets_loop_end (Xor k) = None
+meets_loop_end Loop = Some Closed
 
--- Elements that begin an item do nothing to the block.
-abbrev pub meets : Frame → Element → Next
-meets f (Activity i) = Refused
-meets f AndSplit = Refused
+-- `None` where the block refuses the element. One that begins an item does nothing to the block.
+abbrev pub meets : Frame → Element → Option Next
+meets f (Activity i) = None
+meets f AndSplit = None
 meets f Bar = meets_bar f
 meets f AndJoin = meets_and_join f
-meets f (XorSplit i) = Refused
+meets f (XorSplit i) = None
 meets f XorJoin = meets_xor_join f
-meets f LoopStart = Refused
+meets f LoopStart = None
 meets f (LoopEnd i) = meets_loop_end f
 
 -- The open blocks after that; `None` where it is refused.
-abbrev pub moved : Next → List Frame → Option (List Frame)
-moved (Branch f) s = Some (f ∷ s)
-moved Closed s = Some s
-moved Refused s = None
+abbrev pub moved : Option Next → List Frame → Option (List Frame)
+moved (Some (Branch f)) s = Some (f ∷ s)
+moved (Some Closed) s = Some s
+moved None s = None
 
 -- An element that begins no item, with these blocks open, the innermost first.
 abbrev pub closes : Element → List Frame → Option (List Frame)
 closes x [] = None
 closes x (f ∷ s) = moved (meets f x) s
 
--- A split and a loop start begin a block, which has no bar yet.
-abbrev pub starts : Element → Start
-starts (Activity i) = Start.Activity
-starts AndSplit = Block (And 0)
-starts Bar = Nothing
-starts AndJoin = Nothing
-starts (XorSplit i) = Block (Xor 0)
-starts XorJoin = Nothing
-starts LoopStart = Block Loop
-starts (LoopEnd i) = Nothing
+-- A split and a loop start begin a block, which has no bar yet; `None` where no item begins.
+abbrev pub starts : Element → Option Start
+starts (Activity i) = Some Start.Activity
+starts AndSplit = Some (Block (And 0))
+starts Bar = None
+starts AndJoin = None
+starts (XorSplit i) = Some (Block (Xor 0))
+starts XorJoin = None
+starts LoopStart = Some (Block Loop)
+starts (LoopEnd i) = None
 
-abbrev pub started : Start → Element → List Frame → Option (List Frame)
-started Start.Activity x s = Some s
-started (Block f) x s = Some (f ∷ s)
-started Nothing x s = closes x s
+abbrev pub started : Option Start → Element → List Frame → Option (List Frame)
+started (Some Start.Activity) x s = Some s
+started (Some (Block f)) x s = Some (f ∷ s)
+started None x s = closes x s
 
 -- The blocks that are open after any element; `None` where it is refused.
 abbrev pub opens : Element → List Frame → Option (List Frame)
@@ -99,7 +99,7 @@ verdict (Some p) = Err p
 -- No item begins at the front of these elements.
 abbrev pub Ends : List Element → Type 0
 Ends [] = Unit {0}
-Ends (x ∷ xs) = starts x ≡ Nothing
+Ends (x ∷ xs) = starts x ≡ None
 
 -- From p to q stand whole items: whatever blocks are open around them, the rest decides.
 abbrev pub Passes : List Element → ℕ → ℕ → Type 0

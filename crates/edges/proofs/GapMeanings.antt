@@ -53,16 +53,6 @@ Turned false B S u = B u
 abbrev pub Small : (ℕ → Type 0) → Type 0
 Small P = (u : ℕ) → P u → u < 64
 
-assoc : (P Q R : ℕ → Type 0) (u : ℕ) → (P u ⊎ Q u) ⊎ R u → P u ⊎ (Q u ⊎ R u)
-assoc P Q R u (inl (inl p)) = inl p
-assoc P Q R u (inl (inr q)) = inr (inl q)
-assoc P Q R u (inr r) = inr (inr r)
-
-assoc_back : (P Q R : ℕ → Type 0) (u : ℕ) → P u ⊎ (Q u ⊎ R u) → (P u ⊎ Q u) ⊎ R u
-assoc_back P Q R u (inl p) = inl (inl p)
-assoc_back P Q R u (inr (inl q)) = inl (inr q)
-assoc_back P Q R u (inr (inr r)) = inr r
-
 pub enters : (A S B M : ℕ → Type 0) (s : Spot) → Means A S B M s → Means (A ∪ S) None B M (enter s)
 enters A S B M s m = record { ahead = has_union _ _ A S m.ahead m.seen; seen = has_nothing; beside = m.beside; mates = m.mates }
 
@@ -81,18 +71,14 @@ turns p A S B M s m = record { ahead = m.ahead; seen = has_nothing; beside = tur
 
 mutual
   pub means : (t : Seq) (A S B M : ℕ → Type 0) (s : Spot) → Small (In t) → Means A S B M s → Means A (S ∪ In t) B (M ∪ Level t) (after t s)
-  means nil A S B M s small m = record { ahead = m.ahead; seen = has_like _ _ _ (λ u. inl) (λ u. drop_none) m.seen; beside = m.beside; mates = has_like _ _ _ (λ u. inl) (λ u. drop_none) m.mates }
-    where
-      drop_none : {P : Type 0} → P ⊎ ⊥ → P
-      drop_none (inl p) = p
-      drop_none (inr q) = elim q [ ]
+  means nil A S B M s small m = record { ahead = m.ahead; seen = has_like _ _ _ (λ u. inl) (λ u a. grind arith) m.seen; beside = m.beside; mates = has_like _ _ _ (λ u. inl) (λ u a. grind arith) m.mates }
   means (cons x t) A S B M s small m =
       let n = means t A (S ∪ InItem x) B (M ∪ LevelItem x) (after_item x s) (λ u h. small u (inr h)) (means_item x A S B M s (λ u h. small u (inl h)) m) in
       record {
         ahead = n.ahead;
-        seen = has_like _ _ _ (assoc S (InItem x) (In t)) (assoc_back S (InItem x) (In t)) n.seen;
+        seen = has_like _ _ _ (λ u a. grind arith) (λ u a. grind arith) n.seen;
         beside = n.beside;
-        mates = has_like _ _ _ (assoc M (LevelItem x) (Level t)) (assoc_back M (LevelItem x) (Level t)) n.mates;
+        mates = has_like _ _ _ (λ u a. grind arith) (λ u a. grind arith) n.mates;
       }
 
   pub means_item : (x : Item) (A S B M : ℕ → Type 0) (s : Spot) → Small (InItem x) → Means A S B M s → Means A (S ∪ InItem x) B (M ∪ LevelItem x) (after_item x s)
@@ -103,43 +89,17 @@ mutual
       let n = means t A S B None (enter_loop s) (λ u h. small u (inl h)) (enters_loop A S B M s m) in
       record {
         ahead = n.ahead;
-        seen = has_like _ _ _ (assoc S (In t) (λ u. u ≡ i)) (assoc_back S (In t) (λ u. u ≡ i)) (has_union _ _ (S ∪ In t) (λ u. u ≡ i) n.seen (has_one i (small i (inr refl))));
+        seen = has_like _ _ _ (λ u a. grind arith) (λ u a. grind arith) (has_union _ _ (S ∪ In t) (λ u. u ≡ i) n.seen (has_one i (small i (inr refl))));
         beside = n.beside;
-        mates = has_like _ _ _ (λ u. inl) (λ u. only_left) m.mates;
+        mates = has_like _ _ _ (λ u. inl) (λ u a. grind arith) m.mates;
       }
-    where
-      only_left : {P : Type 0} → P ⊎ ⊥ → P
-      only_left (inl p) = p
-      only_left (inr q) = elim q [ ]
   means_item (and b) A S B M s small m =
       let n = means_branches true b A S B M (A ∪ S) None B None M s empty (enter s) small m has_nothing (enters A S B M s m) in
-      record { ahead = n.ahead; seen = has_like _ _ _ (λ u. to) (λ u. from) n.seen; beside = n.beside; mates = n.mates }
-    where
-      to : {P Q : Type 0} → P ⊎ (⊥ ⊎ (⊥ ⊎ Q)) → P ⊎ Q
-      to (inl p) = inl p
-      to (inr (inl z)) = elim z [ ]
-      to (inr (inr (inl z))) = elim z [ ]
-      to (inr (inr (inr q))) = inr q
-
-      from : {P Q : Type 0} → P ⊎ Q → P ⊎ (⊥ ⊎ (⊥ ⊎ Q))
-      from (inl p) = inl p
-      from (inr q) = inr (inr (inr q))
+      record { ahead = n.ahead; seen = has_like _ _ _ (λ u a. grind arith) (λ u a. grind arith) n.seen; beside = n.beside; mates = n.mates }
   means_item (xor i b) A S B M s small m =
       let k = passes_node A S B M s i (small i (inl refl)) m in
       let n = means_branches false b A (S ∪ (λ u. u ≡ i)) B M (A ∪ (S ∪ (λ u. u ≡ i))) None B None M (past_node i s) empty (enter (past_node i s)) (λ u h. small u (inr h)) k has_nothing (enters A (S ∪ (λ u. u ≡ i)) B M (past_node i s) k) in
-      record { ahead = n.ahead; seen = has_like _ _ _ (λ u. to) (λ u. from) n.seen; beside = n.beside; mates = n.mates }
-    where
-      to : {P I Q : Type 0} → (P ⊎ I) ⊎ (⊥ ⊎ (⊥ ⊎ Q)) → P ⊎ (I ⊎ Q)
-      to (inl (inl p)) = inl p
-      to (inl (inr i)) = inr (inl i)
-      to (inr (inl z)) = elim z [ ]
-      to (inr (inr (inl z))) = elim z [ ]
-      to (inr (inr (inr q))) = inr (inr q)
-
-      from : {P I Q : Type 0} → P ⊎ (I ⊎ Q) → (P ⊎ I) ⊎ (⊥ ⊎ (⊥ ⊎ Q))
-      from (inl p) = inl (inl p)
-      from (inr (inl i)) = inl (inr i)
-      from (inr (inr q)) = inr (inr (inr q))
+      record { ahead = n.ahead; seen = has_like _ _ _ (λ u a. grind arith) (λ u a. grind arith) n.seen; beside = n.beside; mates = n.mates }
 
   means_branches : (p : Bool) (b : Branches) (A S B M₀ A' S' B' G M : ℕ → Type 0) (o : Spot) (g : IdSet) (s : Spot) → Small (InBranches b)
       → Means A S B M₀ o → Has g G → Means A' S' B' M s
@@ -158,22 +118,7 @@ mutual
       mo (has_union _ _ G (S' ∪ In t) mg n.seen) (turns p A' (S' ∪ In t) B' (M ∪ Level t) (after t s) n) in
       record {
         ahead = r.ahead;
-        seen = has_like _ _ _ (λ u. to) (λ u. from) r.seen;
+        seen = has_like _ _ _ (λ u a. grind arith) (λ u a. grind arith) r.seen;
         beside = r.beside;
-        mates = has_like _ _ _ (assoc M (Level t) (LevelBranches b)) (assoc_back M (Level t) (LevelBranches b)) r.mates;
+        mates = has_like _ _ _ (λ u a. grind arith) (λ u a. grind arith) r.mates;
       }
-    where
-      to : {P G S T R : Type 0} → P ⊎ ((G ⊎ (S ⊎ T)) ⊎ (⊥ ⊎ R)) → P ⊎ (G ⊎ (S ⊎ (T ⊎ R)))
-      to (inl p) = inl p
-      to (inr (inl (inl g))) = inr (inl g)
-      to (inr (inl (inr (inl s)))) = inr (inr (inl s))
-      to (inr (inl (inr (inr t)))) = inr (inr (inr (inl t)))
-      to (inr (inr (inl z))) = elim z [ ]
-      to (inr (inr (inr r))) = inr (inr (inr (inr r)))
-
-      from : {P G S T R : Type 0} → P ⊎ (G ⊎ (S ⊎ (T ⊎ R))) → P ⊎ ((G ⊎ (S ⊎ T)) ⊎ (⊥ ⊎ R))
-      from (inl p) = inl p
-      from (inr (inl g)) = inr (inl (inl g))
-      from (inr (inr (inl s))) = inr (inl (inr (inl s)))
-      from (inr (inr (inr (inl t)))) = inr (inl (inr (inr t)))
-      from (inr (inr (inr (inr r)))) = inr (inr (inr r))

@@ -46,12 +46,7 @@ module _ (t : Seq) (o : Once t) (small : Small t) where
       inside : In t v → Decides (within (befores (flatten t)) u v) (Before t u v)
       inside h =
           Decides-at _ _ (ap (λ ss. has (get_or ss v empty) u) (on_tree preceding t nowhere no_sets) ∙ ap (λ s. has s u) (value preceding v t nowhere no_sets o (room v h) h))
-          (Decides-like _ to inr (sees v u t None None None None nowhere o small none_yet h))
-        where
-          to : (⊥ ⊎ ⊥) ⊎ Before t u v → Before t u v
-          to (inl (inl z)) = elim z [ ]
-          to (inl (inr z)) = elim z [ ]
-          to (inr b) = b
+          (Decides-like _ (λ a. grind arith) inr (sees v u t None None None None nowhere o small none_yet h))
 
       outside : (In t v → ⊥) → Decides (within (befores (flatten t)) u v) (Before t u v)
       outside n =
@@ -66,17 +61,9 @@ module _ (t : Seq) (o : Once t) (small : Small t) where
 
       by_kind : (h : In t v) (k : Bool) → acts v t h ≡ k → Decides (has (joinable k (at v t h nowhere)) u) (Beside t u v × Mate t u v)
       by_kind h true e =
-          Decides-like _ to from
+          Decides-like _ (λ a. grind arith) (λ p. (inr p.0, inr p.1))
           (has_both _ _ (λ w. ⊥ ⊎ Beside t w v) (λ w. (⊥ × Level t v) ⊎ Mate t w v)
           (λ w. sides v w t None None None None nowhere o small none_yet h e) (λ w. mates v w t None None None None nowhere o small none_yet h e) u)
-        where
-          to : (⊥ ⊎ Beside t u v) × ((⊥ × Level t v) ⊎ Mate t u v) → Beside t u v × Mate t u v
-          to (inl z, b) = elim z [ ]
-          to (inr a, inl (z, l)) = elim z [ ]
-          to (inr a, inr b) = (a, b)
-
-          from : Beside t u v × Mate t u v → (⊥ ⊎ Beside t u v) × ((⊥ × Level t v) ⊎ Mate t u v)
-          from (a, b) = (inr a, inr b)
       by_kind h false e =
           no _ (has_empty u) (λ (p : Beside t u v × Mate t u v). let q = mate_acts v u t o p.1 h in let z : ◌≡◌ {A = ℕ} 0 1 = cc in omega arith)
 
@@ -89,15 +76,11 @@ module _ (t : Seq) (o : Once t) (small : Small t) where
           (λ (p : Beside t u v × Mate t u v). n (beside_in u v t p.0))
 
   joins_told : (e : Edge) → Decides (joined (partners (flatten t)) e) (Joins t e.source e.target)
-  joins_told e = Decides-like _ to from (Decides-or _ _ (partner_told e.source e.target) (partner_told e.target e.source))
-    where
-      to : (Beside t e.source e.target × Mate t e.source e.target) ⊎ (Beside t e.target e.source × Mate t e.target e.source) → Joins t e.source e.target
-      to (inl (a, b)) = (inl a, mate_same _ _ t b)
-      to (inr (a, b)) = (inr a, same_turn _ _ t (mate_same _ _ t b))
-
-      from : Joins t e.source e.target → (Beside t e.source e.target × Mate t e.source e.target) ⊎ (Beside t e.target e.source × Mate t e.target e.source)
-      from (inl a, s) = inl (a, same_mate _ _ t o a s)
-      from (inr a, s) = inr (a, same_mate _ _ t o a (same_turn _ _ t s))
+  joins_told e =
+      let u = e.source in
+      let v = e.target in
+      Decides-like _ (λ a. grind (arith, mate_same u v t, mate_same v u t, same_turn v u t)) (λ a. grind (arith, same_mate u v t o, same_mate v u t o, same_turn u v t))
+      (Decides-or _ _ (partner_told u v) (partner_told v u))
 
   joins_small : (u v : ℕ) → Joins t u v → (u < 64) × (v < 64)
   joins_small u v (inl a, s) = (small u (beside_left u v t a), small v (beside_in u v t a))

@@ -18,34 +18,17 @@ getD_map_all f e (x ∷ xs) zero = refl
 getD_map_all f e (x ∷ xs) (suc i) = getD_map_all f e xs i
 
 grow_has : (g s : IdSet) (x : ℕ) (c : Bool) → has (cond c (union s g) s) x ≡ (has s x || (has g x && c))
-grow_has g s x true = has_union s g x ∙ yes (has s x) (has g x)
-  where
-    yes : (p q : Bool) → (p || q) ≡ (p || (q && true))
-    yes true q = refl
-    yes false true = refl
-    yes false false = refl
-grow_has g s x false = no (has s x) (has g x)
-  where
-    no : (p q : Bool) → p ≡ (p || (q && false))
-    no true q = refl
-    no false true = refl
-    no false false = refl
+grow_has g s x true = grind (arith, has_union s g x)
+grow_has g s x false = grind arith
 
 at_target : (p q c : Bool) → ((p || q) || (q && c)) ≡ (p || q)
-at_target true q c = refl
-at_target false true c = refl
-at_target false false c = refl
+at_target p q c = grind arith
 
 swap : (p q : Bool) → (p || q) ≡ (q || p)
-swap true true = refl
-swap true false = refl
-swap false true = refl
-swap false false = refl
+swap p q = grind arith
 
 also : (p q r : Bool) → r ≡ true → (p || q) ≡ (p || (q && r))
-also true q r e = refl
-also false true r e = sym e
-also false false r e = refl
+also p q r e = grind arith
 
 module _ (back : List IdSet) (e : Edge) (a_small : e.source < 64) (b_small : e.target < length back) where
   gain_has : (x : ℕ) → has (gain_of back e) x ≡ (eqb x e.source || within back x e.source)

@@ -1,7 +1,8 @@
 -- The first sync edge that breaks a rule, by sets of ids. Assumes nothing.
 --   partners    for each id the earlier activities that a sync edge may join it with
 --   back        for each id the nodes from which it is reached
-use Rattle.std.specs.Prelude.{ℕ, ◌+◌, Bool, false, cond, not, ◌&&◌, ◌||◌, List, [], ◌∷◌, ◌++◌, map, Ok, Err, Result, ◌==◌, slice_index_or, slice_set}
+use Rattle.std.specs.List.{list_any}
+use Rattle.std.specs.Prelude.{ℕ, ◌+◌, Bool, cond, not, ◌&&◌, ◌||◌, List, [], ◌∷◌, ◌++◌, map, Ok, Err, Result, ◌==◌, slice_index_or, slice_set}
 use Rattle.ids.specs.declared.IdSet.{IdSet}
 use Rattle.ids.specs.Sets.{has, only, empty, union}
 use Rattle.model.specs.declared.Edge.{Edge}
@@ -14,8 +15,7 @@ abbrev pub same : Edge → Edge → Bool
 same d e = d.source == e.source && d.target == e.target
 
 abbrev pub listed : List Edge → Edge → Bool
-listed [] e = false
-listed (d ∷ ds) e = same d e || listed ds e
+listed ds e = list_any (λ d. same d e) ds
 
 -- Either end may be the later one in the row.
 abbrev pub joined : List IdSet → Edge → Bool

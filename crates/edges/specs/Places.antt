@@ -12,8 +12,8 @@ use Rattle.model.specs.declared.Element.TheVariants.{Activity, AndSplit, Bar, An
 use Rattle.edges.specs.declared.order.Order.{Order}
 use Rattle.edges.specs.declared.places.Spot.{Spot}
 use Rattle.edges.specs.declared.places.Opened.{Opened}
-use Rattle.edges.specs.declared.places.Move.{Move}
-use Rattle.edges.specs.declared.places.Move.TheVariants.{Stay, Open, Turn, Close}
+use Rattle.stack.specs.declared.moves.Move.{Move}
+use Rattle.stack.specs.declared.moves.Move.TheVariants.{Stay, Open, Turn, Close}
 use Rattle.stack.specs.Items.{head, tail}
 
 abbrev pub spot : IdSet → IdSet → IdSet → IdSet → Spot
@@ -51,20 +51,20 @@ abbrev pub leave_loop : ℕ → Spot → Spot → Spot
 leave_loop i o s = spot s.ahead (union s.seen (only i)) s.beside o.mates
 
 -- Bars and ends with no block open do nothing.
-abbrev pub at_bar : Spot → Option Opened → Move
+abbrev pub at_bar : Spot → Option Opened → Move Spot Opened
 at_bar s None = Stay s
 at_bar s (Some o) = Turn (turn o.parallel s) (opened o.origin (union o.gathered s.seen) o.parallel)
 
-abbrev pub at_join : Spot → Option Opened → Move
+abbrev pub at_join : Spot → Option Opened → Move Spot Opened
 at_join s None = Stay s
 at_join s (Some o) = Close (leave o.origin o.gathered s)
 
-abbrev pub at_loop_end : ℕ → Spot → Option Opened → Move
+abbrev pub at_loop_end : ℕ → Spot → Option Opened → Move Spot Opened
 at_loop_end i s None = Stay s
 at_loop_end i s (Some o) = Close (leave_loop i o.origin s)
 
 -- What an element does at a gap, within the innermost open block.
-abbrev pub moves : Element → Spot → Option Opened → Move
+abbrev pub moves : Element → Spot → Option Opened → Move Spot Opened
 moves (Activity i) s top = Stay (past_activity i s)
 moves AndSplit s top = Open (enter s) (opened s empty true)
 moves Bar s top = at_bar s top
@@ -82,7 +82,7 @@ pub record State : Type 0 where
 abbrev pub state : Spot → List Opened → State
 state s os = record { here = s; blocks = os }
 
-abbrev pub moved : Move → List Opened → State
+abbrev pub moved : Move Spot Opened → List Opened → State
 moved (Stay s) os = state s os
 moved (Open s o) os = state s (o ∷ os)
 moved (Turn s o) os = state s (o ∷ tail os)

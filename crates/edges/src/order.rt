@@ -5,7 +5,8 @@ pub mod methods;
 
 use ids::IdSet;
 
-// For each id the nodes that precede it, and the earlier activities that a sync edge may join it with.
+// For each id the nodes that precede it, and the earlier activities that a sync edge may join it with. Arrays, since
+// a schema takes no memory but that for its row and edges; two of them, since the two are asked apart.
 #[derive(Clone, Copy)]
 pub struct Order {
     before: [IdSet; 64],

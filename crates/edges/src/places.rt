@@ -1,13 +1,11 @@
 // What stands ahead of each node of a row and beside it, in one pass over the row.
-ghost use Rattle.std.specs.Prelude.{◌≡◌, ℕ, ◌+◌, ◌<◌, ◌≤◌, List, [], length};
-ghost use Rattle.ids.specs.Sets.{empty};
-ghost use Rattle.stack.specs.Items.{items};
-ghost use Rattle.edges.specs.Places.{past_node, past_activity, enter, enter_loop, turn, leave, leave_loop, moves, step, state, start, opened, note, noted, preceding, joinable};
+ghost use Rattle.std.specs.Prelude.{◌≡◌, ◌+◌, ◌<◌, ◌≤◌, true, length};
+ghost use Rattle.ids.specs.Sets.{empty, union};
+ghost use Rattle.edges.specs.Places.{past_node, past_activity, enter, enter_loop, turn, leave, leave_loop, moves, step, state, nowhere, opened, joinable};
 
-use crate::put;
 use ids::IdSet;
 use model::Element;
-use stack::Stack;
+use stack::{Move, Stack};
 
 // A gap of a row. The sets are of nodes.
 #[derive(Clone, Copy)]
@@ -28,25 +26,43 @@ pub struct Opened {
     pub origin: Spot,
     // the nodes of its branches so far
     pub gathered: IdSet,
-    // of an AND block
+    // of an AND block; an enum of two kinds would be no plainer
     pub parallel: bool,
 }
 
-#[derive(Clone, Copy)]
-pub enum Move {
-    Stay(Spot),
-    Open(Spot, Opened),
-    Turn(Spot, Opened),
-    Close(Spot),
-}
-
 impl Spot {
+    // before the row
+    pub(crate) fn nowhere() -> Spot
+        ensures { result ≡ nowhere }
+    {
+        Spot {
+            ahead: IdSet::empty(),
+            seen: IdSet::empty(),
+            beside: IdSet::empty(),
+            mates: IdSet::empty(),
+        }
+    }
+
+    // The nodes that precede one that stands here.
+    pub(crate) fn preceding(self) -> IdSet
+        ensures { result ≡ union self.ahead self.seen }
+    {
+        self.ahead.union(self.seen)
+    }
+
+    // The earlier activities that a sync edge may join an activity with.
+    pub(crate) fn joinable(self) -> IdSet
+        ensures { result ≡ joinable true self }
+    {
+        self.beside.intersection(self.mates)
+    }
+
     // past a decision or a test
     fn past_node(self, id: u8) -> Spot
         ensures { result ≡ past_node id self }
     {
         Spot {
-            seen: self.seen.union(IdSet::only(id)),
+            seen: self.seen.with(Some(id)),
             ..self
         }
     }
@@ -55,7 +71,7 @@ impl Spot {
         ensures { result ≡ past_activity id self }
     {
         Spot {
-            mates: self.mates.union(IdSet::only(id)),
+            mates: self.mates.with(Some(id)),
             ..self.past_node(id)
         }
     }
@@ -118,7 +134,7 @@ impl Spot {
 
 impl Opened {
     // A block that begins at `origin`.
-    fn at(origin: Spot, parallel: bool) -> Opened
+    pub(crate) fn at(origin: Spot, parallel: bool) -> Opened
         ensures { result ≡ opened origin empty parallel }
     {
         Opened {
@@ -130,7 +146,7 @@ impl Opened {
 }
 
 // What an element does after `spot`, within the innermost open block.
-fn moves(element: Element, spot: Spot, top: Option<Opened>) -> Move
+fn moves(element: Element, spot: Spot, top: Option<Opened>) -> Move<Spot, Opened>
     ensures { result ≡ moves element spot top }
 {
     match (element, top) {
@@ -157,65 +173,12 @@ fn moves(element: Element, spot: Spot, top: Option<Opened>) -> Move
     }
 }
 
-fn pass(blocks: &mut Stack<Opened>, element: Element, spot: Spot) -> Spot
-    requires { length (items blocks.old) < 128 }
-    ensures state { state result (items blocks.new) ≡ step element (state spot (items blocks.old)) }
-    ensures depth { length (items blocks.new) ≤ length (items blocks.old) + 1 }
+// Goes past an element that stands after `spot`.
+pub(crate) fn pass(blocks: &mut Stack<Opened>, element: Element, spot: Spot) -> Spot
+    requires { length blocks.old < 128 }
+    ensures state { state result blocks.new ≡ step element (state spot blocks.old) }
+    ensures depth { length blocks.new ≤ length blocks.old + 1 }
 {
-    match moves(element, spot, blocks.top()) {
-        Move::Stay(next) => next,
-        Move::Open(next, block) => {
-            blocks.push(block);
-            next
-        }
-        Move::Turn(next, block) => {
-            blocks.pop();
-            blocks.push(block);
-            next
-        }
-        Move::Close(next) => {
-            blocks.pop();
-            next
-        }
-    }
-}
-
-fn note(element: Element, spot: Spot, before: &mut [IdSet], partners: &mut [IdSet])
-    ensures before { before.new ≡ note preceding element spot before.old }
-    ensures partners { partners.new ≡ note joinable element spot partners.old }
-{
-    match element {
-        Element::Activity(id) => {
-            put(before, id, spot.ahead.union(spot.seen));
-            put(partners, id, spot.beside.intersection(spot.mates));
-        }
-        Element::XorSplit(id) | Element::LoopEnd(id) => {
-            put(before, id, spot.ahead.union(spot.seen));
-            put(partners, id, IdSet::empty());
-        }
-        _ => {}
-    }
-}
-
-// Notes for each node those that precede it and those that a sync edge may join it with.
-pub(crate) fn read(row: &[Element], before: &mut [IdSet], partners: &mut [IdSet])
-    requires { length row.now ≤ 128 }
-    ensures before { before.new ≡ noted preceding before.old start row.now }
-    ensures partners { partners.new ≡ noted joinable partners.old start row.now }
-{
-    let mut spot = Spot {
-        ahead: IdSet::empty(),
-        seen: IdSet::empty(),
-        beside: IdSet::empty(),
-        mates: IdSet::empty(),
-    };
-    let mut blocks = Stack::new(Opened {
-        origin: spot,
-        gathered: IdSet::empty(),
-        parallel: false,
-    });
-    for element in row {
-        note(*element, spot, before, partners);
-        spot = pass(&mut blocks, *element, spot);
-    }
+    let next = moves(element, spot, blocks.top());
+    blocks.follow(next)
 }

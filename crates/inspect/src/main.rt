@@ -2,6 +2,7 @@
 #![tactic(auto)]
 
 use input::next_line;
+use model::refusal::Reason;
 use outline::Outline;
 use record::LineBuffer;
 use schema::schema::Schema;
@@ -25,7 +26,7 @@ fn show<W: Write>(out: &mut W, heap: Global, number: u64, line: &LineBuffer) -> 
             write!(out, "{outline}")?;
         }
         Err(refusal) => {
-            let reason = refusal.reason();
+            let reason = Reason::from(refusal);
             writeln!(out, "line {number}: {reason}")?;
         }
     }
@@ -36,6 +37,7 @@ fn run(rt: &HostRuntime) -> anyhow::Result<()> {
     let mut input = BufReader::new(rt.alloc(), rt.stdin())?;
     let mut out = BufWriter::new(rt.alloc(), rt.stdout())?;
     let mut line = LineBuffer::new();
+    // a count, since input may never end and each loop is proved to end
     for number in 1..u64::MAX {
         if !next_line(&mut input, &mut line)? {
             break;

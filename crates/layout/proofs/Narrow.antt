@@ -1,10 +1,14 @@
 -- One element more of the pass, and bounds of its numbers. Assumes nothing.
-use Rattle.std.proofs.Common.{◌≡◌, ℕ, ◌+◌, ◌<◌, ◌≤◌, List, [], ◌∷◌, length, get_or, drop, Some, Option, sym, ap, ◌∙◌, subst, arith}
+use Rattle.std.proofs.Common.{◌≡◌, ℕ, ◌+◌, ◌<◌, ◌≤◌, List, [], ◌∷◌, length, get_or, drop, Some, Option, refl, sym, ap, ◌∙◌, subst, arith}
+use Rattle.std.proofs.lemmas.Bool.{cond-true, lt-ltb}
 use Rattle.std.proofs.lemmas.List.{at_drop_more}
 use Rattle.model.specs.declared.Element.{Element}
 use Rattle.model.specs.declared.Element.TheVariants.{Activity, AndSplit, Bar, AndJoin, XorSplit, XorJoin, LoopStart, LoopEnd}
 use Rattle.layout.specs.declared.Position.{Position}
-use Rattle.layout.specs.Pass.{State, state, step, move, noted, read, Tables, turned}
+use Rattle.layout.specs.Pass.{State, state, moved, step, move, noted, read, Tables, turned}
+use Rattle.stack.specs.declared.moves.Move.{Move}
+use Rattle.stack.specs.declared.moves.Move.TheVariants.{Stay, Open, Turn, Close}
+use Rattle.stack.specs.Moves.{reached, followed}
 
 -- Branches and blocks are no more than the elements that were read.
 abbrev Bounded : ℕ → Position → Type 0
@@ -59,6 +63,16 @@ left n h o os w = record {
   here = (omega (arith, w.outer.0.0), omega (arith, w.outer.0.1));
   outer = all_wider n os w.outer.1;
 }
+
+-- With room on the stack a move is followed as it is told.
+pub follow_moved : (m : Move Position Position) (os : List Position) → length os < 128 → state (reached m) (followed m os) ≡ moved m os
+follow_moved (Stay n) os few = refl
+follow_moved (Open n o) os few = ap (state n) (cond-true _ _ _ (lt-ltb (length os) 128 few))
+follow_moved (Turn n o) [] few = refl
+follow_moved (Turn n o) (p ∷ os) few =
+    let less : length os < 128 = omega arith in
+    ap (state n) (cond-true _ _ _ (lt-ltb (length os) 128 less))
+follow_moved (Close n) os few = refl
 
 abbrev NarrowState : ℕ → State → Type 0
 NarrowState n s = Narrow n s.here s.outer

@@ -6,7 +6,7 @@ use Rattle.model.specs.declared.Element.{Element}
 use Rattle.model.specs.declared.Element.TheVariants.{Activity, AndSplit, Bar, AndJoin, XorSplit, XorJoin, LoopStart, LoopEnd}
 use Rattle.model.specs.Trees.{Seq, nil, cons, Item, activity, loop, and, xor, Branches, last, bar, spell, spell_item, spell_branches, count}
 use Rattle.layout.specs.declared.Position.{Position}
-use Rattle.layout.specs.declared.pass.Move.TheVariants.{Stay, Turn}
+use Rattle.stack.specs.declared.moves.Move.TheVariants.{Stay, Turn}
 use Rattle.layout.specs.Pass.{state, Tables, tables, read, noted, written, position, outside, entered, entered_loop, turned}
 use Rattle.layout.specs.Gaps.{Begins, Closes, Rest, Inside, loop_from, Gap, gap_of, Stands, Ends}
 use Rattle.layout.proofs.Rests.{rest_next, rest_here, rest_long, rest_less}
@@ -127,7 +127,7 @@ module _ (xs : List Element) (few : length xs ≤ 128) where
 
   -- past an activity
   walked_activity : (i : ℕ) (ys : List Element) (n : ℕ) (h : Position) (us : List ℕ) (t : Tables) → Walked (Activity i ∷ ys) n h us t
-      → Walked ys (n + 1) h us (noted (Activity i) n Stay h t)
+      → Walked ys (n + 1) h us (noted (Activity i) n (Stay h) h t)
   walked_activity i ys n h us t w = record {
     left = rest_next w.left;
     gap = gap_item (activity i) ys h w.gap;
@@ -153,9 +153,9 @@ module _ (xs : List Element) (few : length xs ≤ 128) where
   }
 
   -- past a bar
-  walked_bar : (ys : List Element) (n s : ℕ) (h : Position) (us : List ℕ) (t : Tables) → h.block ≡ Some s → Walked (Bar ∷ ys) n h us t
-      → Walked ys (n + 1) (turned h) us (noted Bar n (Turn (turned h)) h t)
-  walked_bar ys n s h us t is w =
+  walked_bar : (ys : List Element) (n s : ℕ) (h o : Position) (us : List ℕ) (t : Tables) → h.block ≡ Some s → Walked (Bar ∷ ys) n h us t
+      → Walked ys (n + 1) (turned h) us (noted Bar n (Turn (turned h) o) h t)
+  walked_bar ys n s h o us t is w =
       let g = gap_bar ys h s is w.gap in
       record {
         left = rest_next w.left;
@@ -252,4 +252,4 @@ module _ (xs : List Element) (few : length xs ≤ 128) where
       walk_branches (last u) ys n s h o os us t is w k = walk u ys n h (o ∷ os) us t w (λ m v w2. k m h v is w2)
       walk_branches (bar u b) ys n s h o os us t is w k =
           walk u (Bar ∷ spell_branches b ys) n h (o ∷ os) us t w
-          (λ m v w2. walk_branches b ys (m + 1) s (turned h) o os us _ is (walked_bar _ m s h us v is w2) k)
+          (λ m v w2. walk_branches b ys (m + 1) s (turned h) o os us _ is (walked_bar _ m s h o us v is w2) k)

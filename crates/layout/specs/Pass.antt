@@ -3,11 +3,11 @@ use Rattle.std.specs.Prelude.{◌≡◌, ℕ, ◌+◌, cond, List, [], ◌∷◌
 use Rattle.model.specs.declared.Element.{Element}
 use Rattle.model.specs.declared.Element.TheVariants.{Activity, AndSplit, Bar, AndJoin, XorSplit, XorJoin, LoopStart, LoopEnd}
 use Rattle.model.specs.Elements.{node_id}
+use Rattle.stack.specs.declared.moves.Move.{Move}
+use Rattle.stack.specs.declared.moves.Move.TheVariants.{Stay, Open, Turn, Close}
 use Rattle.stack.specs.Items.{head, tail}
 use Rattle.layout.specs.declared.Position.{Position}
 use Rattle.layout.specs.declared.Layout.{Layout}
-use Rattle.layout.specs.declared.pass.Move.{Move}
-use Rattle.layout.specs.declared.pass.Move.TheVariants.{Stay, Enter, Turn, Leave}
 
 -- by its block, its loop, its branch and its depth
 abbrev pub position : Option ℕ → Option ℕ → ℕ → ℕ → Position
@@ -29,26 +29,26 @@ entered_loop p o = position (Some p) (Some p) 0 (o.depth + 1)
 abbrev pub turned : Position → Position
 turned h = position h.block h.loop_start (h.branch + 1) h.depth
 
--- A bar turns to the next branch of the innermost block, if there is one.
-abbrev pub at_bar : Position → Option Position → Move
-at_bar h None = Stay
-at_bar h (Some o) = Turn (turned h)
+-- A bar turns to the next branch of the innermost block, if there is one. Of a block the position around it is kept.
+abbrev pub at_bar : Position → Option Position → Move Position Position
+at_bar h None = Stay h
+at_bar h (Some o) = Turn (turned h) o
 
 -- An end leaves the innermost block, if there is one.
-abbrev pub at_end : Option Position → Move
-at_end None = Stay
-at_end (Some o) = Leave o
+abbrev pub at_end : Position → Option Position → Move Position Position
+at_end h None = Stay h
+at_end h (Some o) = Close o
 
 -- What an element at place p does at a position, within the position around the innermost block.
-abbrev pub moves : Element → ℕ → Position → Option Position → Move
-moves (Activity i) p h o = Stay
-moves AndSplit p h o = Enter (entered p h)
+abbrev pub moves : Element → ℕ → Position → Option Position → Move Position Position
+moves (Activity i) p h o = Stay h
+moves AndSplit p h o = Open (entered p h) h
 moves Bar p h o = at_bar h o
-moves AndJoin p h o = at_end o
-moves (XorSplit i) p h o = Enter (entered p h)
-moves XorJoin p h o = at_end o
-moves LoopStart p h o = Enter (entered_loop p h)
-moves (LoopEnd i) p h o = at_end o
+moves AndJoin p h o = at_end h o
+moves (XorSplit i) p h o = Open (entered p h) h
+moves XorJoin p h o = at_end h o
+moves LoopStart p h o = Open (entered_loop p h) h
+moves (LoopEnd i) p h o = at_end h o
 
 -- A gap: its position, and those around its blocks, the innermost first.
 pub record State : Type 0 where
@@ -59,30 +59,30 @@ pub record State : Type 0 where
 abbrev pub state : Position → List Position → State
 state h os = record { here = h; outer = os }
 
--- The gap after a move: a block that is entered keeps the position around it.
-abbrev pub moved : Move → Position → List Position → State
-moved Stay h os = state h os
-moved (Enter n) h os = state n (h ∷ os)
-moved (Turn n) h os = state n os
-moved (Leave n) h os = state n (tail os)
+-- The gap after a move.
+abbrev pub moved : Move Position Position → List Position → State
+moved (Stay n) os = state n os
+moved (Open n o) os = state n (o ∷ os)
+moved (Turn n o) os = state n (o ∷ tail os)
+moved (Close n) os = state n (tail os)
 
 -- Before the row.
 abbrev pub start : State
 start = state outside []
 
 -- A bar stands at the position after it, every other element at the one before it.
-abbrev pub stand : Move → Position → Position
-stand Stay h = h
-stand (Enter n) h = h
-stand (Turn n) h = n
-stand (Leave n) h = h
+abbrev pub stand : Move Position Position → Position → Position
+stand (Stay n) h = h
+stand (Open n o) h = h
+stand (Turn n o) h = n
+stand (Close n) h = h
 
 -- The block that a move ends.
-abbrev pub ending : Move → Position → Option ℕ
-ending Stay h = None
-ending (Enter n) h = None
-ending (Turn n) h = None
-ending (Leave n) h = h.block
+abbrev pub ending : Move Position Position → Position → Option ℕ
+ending (Stay n) h = None
+ending (Open n o) h = None
+ending (Turn n o) h = None
+ending (Close n) h = h.block
 
 -- A place, written under a key.
 abbrev pub written : Option ℕ → ℕ → List (Option ℕ) → List (Option ℕ)
@@ -100,16 +100,16 @@ abbrev pub tables : List (Option ℕ) → List Position → List (Option ℕ) �
 tables ps qs es = record { places = ps; positions = qs; ends = es }
 
 -- The tables with an element at p more, that makes this move.
-abbrev pub noted : Element → ℕ → Move → Position → Tables → Tables
+abbrev pub noted : Element → ℕ → Move Position Position → Position → Tables → Tables
 noted x p m h t = tables (written (node_id x) p t.places) (slice_set t.positions p (stand m h)) (written (ending m h) p t.ends)
 
 -- The move of an element at a gap.
-abbrev pub move : Element → ℕ → State → Move
+abbrev pub move : Element → ℕ → State → Move Position Position
 move x p s = moves x p s.here (head s.outer)
 
 -- The gap after an element at p.
 abbrev pub step : Element → ℕ → State → State
-step x p s = moved (move x p s) s.here s.outer
+step x p s = moved (move x p s) s.outer
 
 -- The tables after the elements from place p on.
 abbrev pub read : ℕ → State → Tables → List Element → Tables

@@ -22,6 +22,8 @@ pub struct Position {
     pub depth: u8,
 }
 
+// Arrays beside a length, and not an `ArrayVec` of positions: what is told of a layout (`LayoutOf`) tells all 128 of
+// them, those past the row too.
 #[derive(Clone, Copy)]
 pub struct Layout {
     // how many elements the row has

@@ -1,23 +1,11 @@
-// The pass over a row that fills a layout's tables.
-ghost use Rattle.std.specs.Prelude.{◌≡◌, ◌<◌, ◌≤◌, length, Some, slice_set};
-ghost use Rattle.stack.specs.Items.{items};
-ghost use Rattle.layout.specs.Pass.{outside, entered, entered_loop, turned, moves, stand, ending, written, state, moved, start, tables, read};
+// What each element of a row does to the position, and what is noted of it.
+ghost use Rattle.std.specs.Prelude.{◌≡◌, ◌<◌};
+ghost use Rattle.layout.specs.Pass.{outside, entered, entered_loop, turned, moves, stand, ending, written};
 
 use crate::Position;
+use bounded::put;
 use model::Element;
-use stack::Stack;
-
-// What an element does to the position.
-#[derive(Clone, Copy)]
-pub enum Move {
-    Stay,
-    // into a block
-    Enter(Position),
-    // into its next branch
-    Turn(Position),
-    // out of it
-    Leave(Position),
-}
+use stack::Move;
 
 impl Position {
     // outside every block
@@ -67,98 +55,53 @@ impl Position {
     }
 }
 
-// What the element at `place` does, where `outer` is the position around the innermost block. A bar or an
-// end outside every block does nothing.
-fn moves(element: Element, place: u8, here: Position, outer: Option<Position>) -> Move
+// What the element at `place` does, where `outer` is the position around the innermost block: that is kept
+// of an open block. A bar or an end outside every block does nothing.
+pub(crate) fn moves(
+    element: Element,
+    place: u8,
+    here: Position,
+    outer: Option<Position>,
+) -> Move<Position, Position>
     requires { (here.branch < 128) × (here.depth < 128) }
     ensures { result ≡ moves element place here outer }
 {
     match (element, outer) {
-        (Element::AndSplit | Element::XorSplit(_), _) => Move::Enter(here.enter(place)),
-        (Element::LoopStart, _) => Move::Enter(here.enter_loop(place)),
-        (Element::Bar, Some(_)) => Move::Turn(here.turn()),
-        (Element::AndJoin | Element::XorJoin | Element::LoopEnd(_), Some(position)) => {
-            Move::Leave(position)
+        (Element::AndSplit | Element::XorSplit(_), _) => Move::Open(here.enter(place), here),
+        (Element::LoopStart, _) => Move::Open(here.enter_loop(place), here),
+        (Element::Bar, Some(around)) => Move::Turn(here.turn(), around),
+        (Element::AndJoin | Element::XorJoin | Element::LoopEnd(_), Some(around)) => {
+            Move::Close(around)
         }
-        _ => Move::Stay,
-    }
-}
-
-// Goes past an element that makes this move; `outer` has the positions around the open blocks.
-fn follow(outer: &mut Stack<Position>, next: Move, here: Position) -> Position
-    requires { length (items outer.old) < 128 }
-    ensures { state result (items outer.new) ≡ moved next here (items outer.old) }
-{
-    match next {
-        Move::Stay => here,
-        Move::Enter(inner) => {
-            outer.push(here);
-            inner
-        }
-        Move::Turn(head) => head,
-        Move::Leave(around) => {
-            outer.pop();
-            around
-        }
+        _ => Move::Stay(here),
     }
 }
 
 // A bar stands at the head of the branch that it begins.
-fn stand(next: Move, here: Position) -> Position
+pub(crate) fn stand(next: Move<Position, Position>, here: Position) -> Position
     ensures { result ≡ stand next here }
 {
     match next {
-        Move::Turn(after) => after,
+        Move::Turn(after, _) => after,
         _ => here,
     }
 }
 
 // The block that ends here.
-fn ending(next: Move, here: Position) -> Option<u8>
+pub(crate) fn ending(next: Move<Position, Position>, here: Position) -> Option<u8>
     ensures { result ≡ ending next here }
 {
     match next {
-        Move::Leave(_) => here.block,
+        Move::Close(_) => here.block,
         _ => None,
     }
 }
 
-// Writes a place into a table, if the table has the key.
-fn put(table: &mut [Option<u8>], key: u8, place: u8)
-    ensures { table.new ≡ slice_set table.old key (Some place) }
-{
-    if (key as usize) < table.len() {
-        table[key as usize] = Some(place);
-    }
-}
-
-fn note(table: &mut [Option<u8>], key: Option<u8>, place: u8)
+// Writes a place under a key, if there is one.
+pub(crate) fn write(table: &mut [Option<u8>], key: Option<u8>, place: u8)
     ensures { table.new ≡ written key place table.old }
 {
-    match key {
-        Some(key) => put(table, key, place),
-        None => {}
-    }
-}
-
-// Fills the tables of a row.
-pub(crate) fn read(
-    row: &[Element],
-    places: &mut [Option<u8>],
-    positions: &mut [Position],
-    ends: &mut [Option<u8>],
-)
-    requires { (length row.now ≤ 128) × (length positions.old ≡ 128) }
-    ensures { tables places.new positions.new ends.new ≡ read 0 start (tables places.old positions.old ends.old) row.now }
-{
-    let mut here = Position::outside();
-    let mut outer = Stack::new(here);
-    for (i, element) in row.iter().enumerate() {
-        let place = i as u8;
-        let next = moves(*element, place, here, outer.top());
-        note(places, element.id(), place);
-        note(ends, ending(next, here), place);
-        positions[i] = stand(next, here);
-        here = follow(&mut outer, next, here);
+    if let Some(key) = key {
+        put(table, usize::from(key), Some(place));
     }
 }

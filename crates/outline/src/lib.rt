@@ -20,16 +20,12 @@ struct Line {
 
 impl fmt::Display for Line {
     fn fmt<W: fmt::Write>(&self, f: &mut fmt::Formatter<W>) -> fmt::Result {
-        let place = self.place;
-        write!(f, "{place:>5} ")?;
-        for _ in 0..self.indent {
-            write!(f, "  ")?;
-        }
-        let branch = self.branch;
+        let indent = 2 * usize::from(self.indent);
+        write!(f, "{:>5} {:indent$}", self.place, "")?;
         match self.element {
             Element::Activity(id) => writeln!(f, "activity {id}"),
             Element::AndSplit => writeln!(f, "AND split"),
-            Element::Bar => writeln!(f, "bar, branch {branch}"),
+            Element::Bar => writeln!(f, "bar, branch {}", self.branch),
             Element::AndJoin => writeln!(f, "AND join"),
             Element::XorSplit(id) => writeln!(f, "XOR split {id}"),
             Element::XorJoin => writeln!(f, "XOR join"),
@@ -42,10 +38,9 @@ impl fmt::Display for Line {
 impl Line {
     // The line of the element at `place`. Bars and ends of blocks stand as far in as their block's beginning.
     fn of(schema: &Schema, place: usize, element: Element) -> Line {
-        let (depth, branch) = match schema.position(place) {
-            Some(position) => (position.depth, position.branch),
-            None => (0, 0),
-        };
+        let (depth, branch) = schema
+            .position(place)
+            .map_or((0, 0), |position| (position.depth, position.branch));
         let indent = match element {
             Element::Bar | Element::AndJoin | Element::XorJoin | Element::LoopEnd(_) =>
                 depth.saturating_sub(1),
@@ -63,15 +58,12 @@ impl Line {
 
 impl fmt::Display for Outline<'_> {
     fn fmt<W: fmt::Write>(&self, f: &mut fmt::Formatter<W>) -> fmt::Result {
-        let schema = self.0;
+        let Outline(schema) = self;
         for (place, element) in schema.row().iter().enumerate() {
-            let shown = Line::of(schema, place, *element);
-            write!(f, "{shown}")?;
+            write!(f, "{}", Line::of(schema, place, *element))?;
         }
-        for edge in schema.edges().iter() {
-            let source = edge.source;
-            let target = edge.target;
-            writeln!(f, "      sync edge {source} -> {target}")?;
+        for edge in schema.edges() {
+            writeln!(f, "      sync edge {} -> {}", edge.source, edge.target)?;
         }
         Ok(())
     }

@@ -2,13 +2,13 @@
 use Rattle.std.proofs.Common.{◌≡◌, ℕ, ◌+◌, ◌<◌, Bool, true, false, cond, ◌||◌, List, [], ◌∷◌, ◌++◌, length, get_or, drop, Some, None, Ok, Err, Option, Result, sym, refl, ap, ◌∙◌, arith}
 use Rattle.std.proofs.lemmas.List.{at_drop_more}
 use Rattle.ids.specs.declared.IdSet.{IdSet}
-use Rattle.ids.specs.Sets.{has, only}
+use Rattle.ids.specs.Sets.{has, is_id, only, with_id}
 use Rattle.ids.proofs.Laws.{has_union, has_only}
 use Rattle.model.specs.declared.Element.{Element}
 use Rattle.model.specs.Elements.{node_id, bytes_read, LowId}
 use Rattle.model.proofs.Bytes.{read_is}
-use Rattle.schema.specs.Reading.{is_id, among, used, row_taken, row_read}
-use Rattle.schema.specs.Seen.{seen_before, unseen, with_id}
+use Rattle.schema.specs.Reading.{among, used, row_taken, row_read}
+use Rattle.schema.specs.Seen.{seen_before, unseen}
 
 -- the set has the ids of the row
 abbrev pub Seen : IdSet → List Element → Type 0

@@ -8,7 +8,8 @@ use Rattle.model.specs.declared.Element.TheVariants.{Activity, AndSplit, Bar, An
 use Rattle.model.specs.Elements.{node_id, bytes_read, BytesOf, LowId}
 use Rattle.model.specs.Rows.{Bears, Among, Unique, Low}
 use Rattle.model.proofs.Bytes.{read_is, is_read}
-use Rattle.schema.specs.Reading.{is_id, among, used, row_taken, row_read}
+use Rattle.ids.specs.Sets.{is_id}
+use Rattle.schema.specs.Reading.{among, used, row_taken, row_read}
 use Rattle.schema.specs.Checks.{low_id, distinct}
 use Rattle.schema.specs.Causes.{Spells, Fine, Reused, Wrong, FirstWrong}
 

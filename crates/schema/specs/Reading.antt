@@ -1,14 +1,11 @@
 -- The row that a record's elements spell, one after the other. Assumes nothing.
 --   among xs u       whether node u is in the row
 --   row_read         the row, or the place of the first element that is wrong
-use Rattle.std.specs.Prelude.{ℕ, ◌+◌, Bool, false, cond, ◌||◌, List, [], ◌∷◌, ◌++◌, Some, None, Ok, Err, Option, Result, ◌==◌}
+use Rattle.std.specs.Prelude.{ℕ, ◌+◌, Bool, false, cond, ◌||◌, List, [], ◌∷◌, ◌++◌, Some, None, Ok, Err, Option, Result}
 use Rattle.model.specs.declared.Element.{Element}
 use Rattle.model.specs.declared.Edge.{Edge}
 use Rattle.model.specs.Elements.{node_id, bytes_read}
-
-abbrev pub is_id : Option ℕ → ℕ → Bool
-is_id None u = false
-is_id (Some i) u = u == i
+use Rattle.ids.specs.Sets.{is_id}
 
 abbrev pub among : List Element → ℕ → Bool
 among [] u = false

@@ -1,7 +1,7 @@
 -- How reading a row keeps the ids that it met. Assumes nothing.
 use Rattle.std.specs.Prelude.{◌≡◌, ℕ, Bool, false, cond, List, Some, None, Ok, Err, Option, Result}
 use Rattle.ids.specs.declared.IdSet.{IdSet}
-use Rattle.ids.specs.Sets.{has, only, union}
+use Rattle.ids.specs.Sets.{has}
 use Rattle.model.specs.declared.Element.{Element}
 use Rattle.model.specs.Elements.{node_id}
 
@@ -13,10 +13,6 @@ seen_before seen (Some i) = has seen i
 abbrev pub unseen : IdSet → Option Element → Option Element
 unseen seen None = None
 unseen seen (Some x) = cond (seen_before seen (node_id x)) None (Some x)
-
-abbrev pub with_id : IdSet → Option ℕ → IdSet
-with_id seen None = seen
-with_id seen (Some i) = union seen (only i)
 
 -- The row that was written is the one that was read, or the place of the fault is told.
 abbrev pub RowTold : Result (List Element) ℕ → List Element → Result (Unit {0}) ℕ → Type 0

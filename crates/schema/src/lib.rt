@@ -1,6 +1,7 @@
 // Schemas that passed the checks.
 #![tactic(auto)]
 
+mod bad_element;
 mod rows;
 pub mod schema;
 pub mod space;

@@ -17,9 +17,10 @@ use edges::order::Order;
 use layout::Layout;
 use model::refusal::SchemaRefusal;
 use model::{EdgeList, Row};
-use record::{LineBuffer, Record, SchemaRecord};
+use record::{LineBuffer, Record, SchemaRecord, pairs};
 
-// A row of whole blocks: the sync edges are checked.
+// A row of whole blocks: the sync edges are checked. Version, row and edges go on from check to check and end in the
+// schema; a struct round them would only be taken apart there.
 fn check_edges(version: u16, row: Row, edges: EdgeList) -> Result<Schema, SchemaRefusal>
     requires ids { distinct (items row) ≡ true }
     requires nested { is_some (fault [] 0 (items row)) ≡ false }
@@ -27,16 +28,14 @@ fn check_edges(version: u16, row: Row, edges: EdgeList) -> Result<Schema, Schema
 {
     let order = Order::of(&row);
     let layout = Layout::of(&row);
-    match order.check(edges.as_slice()) {
-        Ok(()) => Ok(Schema {
-            row,
-            edges,
-            order,
-            layout,
-            version,
-        }),
-        Err((place, source)) => Err(SchemaRefusal::Edge { place, source }),
-    }
+    order.check(edges.as_slice())?;
+    Ok(Schema {
+        row,
+        edges,
+        order,
+        layout,
+        version,
+    })
 }
 
 // A row with its ids in order: its blocks are checked, then the edges.
@@ -44,17 +43,15 @@ fn check_parts(version: u16, row: Row, edges: EdgeList) -> Result<Schema, Schema
     requires { distinct (items row) ≡ true }
     ensures { shown result ≡ by_blocks version (items row) (items edges) (fault [] 0 (items row)) }
 {
-    match check_blocks(row.as_slice()) {
-        Ok(()) => check_edges(version, row, edges),
-        Err(place) => Err(SchemaRefusal::Block { place }),
-    }
+    check_blocks(row.as_slice())?;
+    check_edges(version, row, edges)
 }
 
 // Whether a record has more elements or edges than a schema may have.
 fn is_over(given: SchemaRecord<'_>) -> bool
     ensures { result ≡ over (raw given.entry) }
 {
-    given.elements.len() / 2 > 128 || given.edges.len() / 2 > 32
+    pairs(given.elements).len() > 128 || pairs(given.edges).len() > 32
 }
 
 // The schema of a record, or the first reason against it. Row and list are where it is built up.
@@ -68,13 +65,9 @@ fn check_record(row: Row, edges: EdgeList, given: SchemaRecord<'_>) -> Result<Sc
     }
     let mut row = row;
     let mut edges = edges;
-    match read_row(&mut row, given.elements) {
-        Ok(()) => {
-            read_edges(&mut edges, given.edges);
-            check_parts(given.version, row, edges)
-        }
-        Err(place) => Err(SchemaRefusal::Element { place }),
-    }
+    read_row(&mut row, given.elements)?;
+    read_edges(&mut edges, given.edges);
+    check_parts(given.version, row, edges)
 }
 
 impl Schema {
@@ -93,12 +86,8 @@ impl Schema {
         ensures rightly { ReadRightly line.now (shown result) }
         ensures only { OnlyRight line.now (shown result) }
     {
-        let Some(decoded) = Record::decode(line) else {
-            return Err(SchemaRefusal::Line);
-        };
-        let Some(given) = SchemaRecord::read(decoded.bytes()) else {
-            return Err(SchemaRefusal::Line);
-        };
+        let record = Record::try_from(line)?;
+        let given = SchemaRecord::try_from(record.bytes())?;
         Schema::check(space, given)
     }
 
@@ -107,9 +96,7 @@ impl Schema {
     pub fn read_buffered(space: Space, line: &LineBuffer) -> Result<Schema, SchemaRefusal>
         ensures { (cs : List ℕ) → held line.now ≡ held_of cs → shown result ≡ schema_read cs }
     {
-        match line.line() {
-            Some(characters) => Schema::read(space, characters),
-            None => Err(SchemaRefusal::Line),
-        }
+        let characters = line.line().ok_or(SchemaRefusal::Line)?;
+        Schema::read(space, characters)
     }
 }

@@ -4,5 +4,5 @@ use Rattle.record.specs.Pairs.{pairs}
 use Rattle.schema.specs.Reading.{edge_of}
 use Rattle.schema.proofs.rows.read_edges.Given as goal
 
-abbrev pub invariant-loop-place : goal.invariant-loop-place
-invariant-loop-place l = items l.list ≡ map edge_of (take l.place (pairs l.edges))
+abbrev pub invariant-loop-source : goal.invariant-loop-source
+invariant-loop-source l = items l.list ≡ map edge_of (take l.source-index (pairs l.edges))

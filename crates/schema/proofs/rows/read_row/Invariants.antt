@@ -6,7 +6,8 @@ use Rattle.schema.proofs.Taking.{Seen}
 use Rattle.schema.proofs.rows.read_row.Given as goal
 
 abbrev pub invariant-loop-place : goal.invariant-loop-place
-invariant-loop-place l =
-    (length (items l.row) ≡ l.place)
-    × Seen l.seen (items l.row)
-    × (row_read [] 0 (pairs l.elements) ≡ row_read (items l.row) l.place (drop l.place (pairs l.elements)))
+invariant-loop-place l = record {
+  long : length (items l.row) ≡ l.place;
+  seen : Seen l.seen (items l.row);
+  so_far : row_read [] 0 (pairs l.elements) ≡ row_read (items l.row) l.place (drop l.place (pairs l.elements));
+}

@@ -1,11 +1,13 @@
-use Rattle.std.proofs.Common.{ap, ◌∙◌}
-use Rattle.record.specs.Lines.{whole_line}
-use Rattle.schema.specs.Checks.{schema_read}
-use Rattle.schema.proofs.Lines.{whole_held, part_held}
+use Rattle.std.proofs.Common.{◌≡◌, None, Err, ap, ◌∙◌, arith}
+use Rattle.std.proofs.lemmas.Grind.{common_steps}
+use Rattle.record.specs.Lines.{held, whole_line}
+use Rattle.schema.specs.Schemas.{shown}
+use Rattle.model.specs.declared.refusal.SchemaRefusal.TheVariants as refusal
+use Rattle.schema.proofs.Lines.{part_held}
 use Rattle.schema.proofs.schema.Schema.read_buffered.Goals as goal
 
-pub returns-in-Some : goal.returns-in-Some
-returns-in-Some c cs h = c.read.ensures.value ∙ ap schema_read (whole_held cs _ (c.in-Some.ensures ∙ ap whole_line h))
-
-pub returns-in-None : goal.returns-in-None
-returns-in-None c cs h = part_held cs (c.in-None.ensures ∙ ap whole_line h)
+pub returns-in_err-characters : goal.returns-in_err-characters
+returns-in_err-characters c cs h =
+    let none : None ≡ whole_line (held c.args.line.now) = grind (arith, common_steps) in
+    let told : shown c.from_residual.result ≡ Err refusal.Line = grind (arith, common_steps) in
+    told ∙ part_held cs (none ∙ ap whole_line h)
