@@ -17,7 +17,7 @@ use Rattle.model.specs.Entries.{entry_id, entry_kind, needed, fact_set}
 use Rattle.model.specs.Rows.{Among}
 use Rattle.model.specs.Signals.{fact_of}
 use Rattle.model.specs.States.{state_of, by_fact, waiting}
-use Rattle.schema.specs.Reading.{is_id}
+use Rattle.ids.specs.Sets.{is_id}
 use Rattle.schema.specs.Checks.{SchemaParts}
 use Rattle.schema.proofs.Checked.{checked_fine}
 use Rattle.schema.proofs.Wrongs.{decides_bears}

@@ -10,7 +10,7 @@ use Rattle.model.specs.Elements.{node_id}
 use Rattle.model.specs.Rows.{Bears, Among, Unique}
 use Rattle.model.specs.Trees.{Seq, nil, cons, Item, activity, loop, and, xor, Branches, last, bar, spell, spell_item, spell_branches}
 use Rattle.model.specs.Signals.{fact_of, is_false, decided, head_of, ends, after, gaps, gaps_item, gaps_and, gaps_xor}
-use Rattle.schema.specs.Reading.{is_id}
+use Rattle.ids.specs.Sets.{is_id}
 use Rattle.schema.proofs.Wrongs.{decides_bears}
 use Rattle.marking.specs.States.{own}
 use Rattle.agreement.specs.Growth.{Leq}

@@ -8,7 +8,7 @@ mod methods;
 pub use methods::fact_of;
 use model::Fact;
 
-// A fact for each id 0 to 63. Ids that a schema has not have the fact nothing.
+// A fact for each id 0 to 63. Ids that a schema has not have the fact nothing. An array, since steps take no memory.
 #[derive(Clone, Copy)]
 pub struct Facts {
     values: [Fact; 64],

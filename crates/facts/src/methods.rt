@@ -1,11 +1,12 @@
 // How facts are told and noted.
-ghost use Rattle.std.specs.Prelude.{◌≡◌, length, replicate, slice_set};
+ghost use Rattle.std.specs.Prelude.{◌≡◌, replicate, slice_set};
 ghost use Rattle.ids.specs.Sets.{has};
 ghost use Rattle.model.specs.declared.Fact.TheVariants.{Nothing};
 ghost use Rattle.model.specs.Signals.{fact_of};
 ghost use Rattle.facts.specs.Facts.{facts_by_id, reset};
 
 use crate::Facts;
+use bounded::put;
 use ids::IdSet;
 use model::Fact;
 
@@ -13,24 +14,10 @@ use model::Fact;
 pub fn fact_of(values: &[Fact], id: u8) -> Fact
     ensures { result ≡ fact_of values.now id }
 {
-    let place = id as usize;
-    if place < values.len() {
-        values[place]
-    } else {
-        Fact::Nothing
-    }
-}
-
-// Sets the facts of these ids to nothing.
-fn forget_in(values: &mut [Fact], ids: IdSet)
-    requires { length values.old ≡ 64 }
-    ensures { values.new ≡ reset (has ids) values.old }
-{
-    for id in 0..64u8 {
-        if ids.has(id) {
-            values[id as usize] = Fact::Nothing;
-        }
-    }
+    values
+        .get(usize::from(id))
+        .copied()
+        .unwrap_or(Fact::Nothing)
 }
 
 impl Facts {
@@ -53,16 +40,18 @@ impl Facts {
     pub fn note(&mut self, id: u8, fact: Fact)
         ensures { facts_by_id self.new ≡ slice_set (facts_by_id self.old) id fact }
     {
-        if id < 64 {
-            self.values[id as usize] = fact;
-        }
+        put(&mut self.values, usize::from(id), fact);
     }
 
     // Nothing has happened to these nodes any more.
     pub fn forget(&mut self, ids: IdSet)
         ensures { facts_by_id self.new ≡ reset (has ids) (facts_by_id self.old) }
     {
-        forget_in(&mut self.values, ids);
+        for (id, fact) in self.values.iter_mut().enumerate() {
+            if ids.has(id as u8) {
+                *fact = Fact::Nothing;
+            }
+        }
     }
 
     pub fn as_slice(&self) -> &[Fact]

@@ -1,5 +1,5 @@
 -- The pass writes the signal of one gap more, and of the last. Assumes nothing.
-use Rattle.std.proofs.Common.{◌≡◌, ℕ, ◌+◌, ◌<◌, ◌≤◌, List, [], ◌∷◌, ◌++◌, length, get_or, take, drop, set, sym, ap, ◌∙◌, append_assoc, arith, length-set, take_all}
+use Rattle.std.proofs.Common.{◌≡◌, ℕ, ◌+◌, ◌<◌, List, [], ◌∷◌, ◌++◌, length, get_or, take, drop, set, sym, ap, ◌∙◌, append_assoc, arith}
 use Rattle.std.proofs.lemmas.List.{drop_more, drop_all, take_more_set}
 use Rattle.model.specs.declared.Element.{Element}
 use Rattle.model.specs.declared.Fact.{Fact}
@@ -15,12 +15,9 @@ module _ (fs : List Fact) (xs : List Element) (gs : List Signal) (i : ℕ) (st :
       ∙ sym (append_assoc (take i gs) (st.signal ∷ []) (signals fs next (drop (i + 1) xs)))
       ∙ ap (λ ys. ys ++ signals fs next (drop (i + 1) xs)) (sym (take_more_set gs i st.signal room))
 
-  pub gap_last : i ≡ length xs → length gs ≡ length xs + 1
-      → take i gs ++ signals fs st (drop i xs) ≡ set gs (length xs) st.signal
-  gap_last e long =
-      let room : i < length gs = omega arith in
-      let whole : length (set gs i st.signal) ≤ i + 1 = simp length-set (omega arith) in
+  pub gap_last : i ≡ length xs → i < length gs
+      → take i gs ++ signals fs st (drop i xs) ≡ take (length xs + 1) (set gs (length xs) st.signal)
+  gap_last e room =
       ap (λ ys. take i gs ++ signals fs st ys) (drop_all i xs (omega arith))
       ∙ sym (take_more_set gs i st.signal room)
-      ∙ take_all _ _ whole
-      ∙ ap (λ n. set gs n st.signal) e
+      ∙ ap (λ n. take (n + 1) (set gs n st.signal)) e

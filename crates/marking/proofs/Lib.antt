@@ -1,4 +1,5 @@
 pub mod TreeSignals
 pub mod GapSteps
 pub mod Owns
+pub mod Arrays
 pub mod Frees

@@ -8,7 +8,7 @@ use Rattle.model.specs.declared.Signal.TheVariants.{None}
 use Rattle.model.specs.Elements.{node_id}
 use Rattle.model.specs.Rows.{Bears, Among, Unique, Low}
 use Rattle.layout.specs.Nodes.{Finds}
-use Rattle.schema.specs.Reading.{is_id}
+use Rattle.ids.specs.Sets.{is_id}
 use Rattle.schema.proofs.Wrongs.{decides_bears}
 use Rattle.marking.specs.States.{own}
 

@@ -16,8 +16,8 @@ use Rattle.marking.specs.declared.signals.Choice.{Choice}
 use Rattle.marking.specs.declared.signals.Choice.TheVariants.{Undecided, Ahead, Behind}
 use Rattle.marking.specs.declared.signals.Opened.{Opened}
 use Rattle.marking.specs.declared.signals.Opened.TheVariants.{And, Xor}
-use Rattle.marking.specs.declared.signals.Move.{Move}
-use Rattle.marking.specs.declared.signals.Move.TheVariants.{Stay, Open, Turn, Close}
+use Rattle.stack.specs.declared.moves.Move.{Move}
+use Rattle.stack.specs.declared.moves.Move.TheVariants.{Stay, Open, Turn, Close}
 
 abbrev pub choice_of : Fact → Choice
 choice_of Nothing = Undecided
@@ -48,23 +48,23 @@ abbrev pub xor_joined : Bool → Choice → Signal → Signal
 xor_joined k c g = cond k False (ending (turned c g))
 
 -- Bars and joins with no block of their kind open do nothing.
-abbrev pub at_bar : Signal → Option Opened → Move
+abbrev pub at_bar : Signal → Option Opened → Move Signal Opened
 at_bar g Option.None = Stay g
 at_bar g (Some (And before all)) = Turn before (And before (all && is_true g))
 at_bar g (Some (Xor k c)) = Turn (chosen k (turned c g)) (Xor k (turned c g))
 
-abbrev pub at_and_join : Signal → Option Opened → Move
+abbrev pub at_and_join : Signal → Option Opened → Move Signal Opened
 at_and_join g Option.None = Stay g
 at_and_join g (Some (And before all)) = Close (and_joined before (all && is_true g))
 at_and_join g (Some (Xor k c)) = Stay g
 
-abbrev pub at_xor_join : Signal → Option Opened → Move
+abbrev pub at_xor_join : Signal → Option Opened → Move Signal Opened
 at_xor_join g Option.None = Stay g
 at_xor_join g (Some (And before all)) = Stay g
 at_xor_join g (Some (Xor k c)) = Close (xor_joined k c g)
 
 -- What an element does behind a signal, within the innermost open block.
-abbrev pub moves : List Fact → Element → Signal → Option Opened → Move
+abbrev pub moves : List Fact → Element → Signal → Option Opened → Move Signal Opened
 moves fs (Activity i) g top = Stay (after_node g (fact_of fs i))
 moves fs AndSplit g top = Open g (And g true)
 moves fs Bar g top = at_bar g top
@@ -82,7 +82,7 @@ pub record Gap : Type 0 where
 abbrev pub gap : Signal → List Opened → Gap
 gap g s = record { signal = g; blocks = s }
 
-abbrev pub moved : Move → List Opened → Gap
+abbrev pub moved : Move Signal Opened → List Opened → Gap
 moved (Stay g) s = gap g s
 moved (Open g o) s = gap g (o ∷ s)
 moved (Turn g o) s = gap g (o ∷ tail s)

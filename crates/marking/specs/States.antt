@@ -14,7 +14,7 @@ use Rattle.model.specs.declared.State.{State}
 use Rattle.model.specs.Elements.{node_id}
 use Rattle.model.specs.Signals.{fact_of, is_true, is_false, is_done}
 use Rattle.model.specs.States.{state_of}
-use Rattle.schema.specs.Reading.{is_id}
+use Rattle.ids.specs.Sets.{is_id}
 use Rattle.marking.specs.Machine.{signals, start}
 
 abbrev pub own : List Element → List Signal → ℕ → ℕ → Option Signal

@@ -1,15 +1,15 @@
 // The signal of every gap of a row, in one pass.
-ghost use Rattle.std.specs.Prelude.{◌≡◌, ℕ, ◌+◌, ◌<◌, ◌≤◌, List, [], ◌∷◌, length};
-ghost use Rattle.stack.specs.Items.{items};
-ghost use Rattle.model.specs.Signals.{fact_of, after_node, is_true, is_false, and_joined};
+ghost use Rattle.std.specs.Prelude.{◌≡◌, ◌+◌, ◌<◌, ◌≤◌, length, take};
+ghost use Rattle.model.specs.Signals.{is_done, and_joined};
 ghost use Rattle.marking.specs.Machine.{choice_of, chosen, turned, xor_joined, at_bar, at_and_join, at_xor_join, moves, gap, step, start, signals};
 
 use facts::fact_of;
 use model::{Element, Fact, Signal};
-use stack::Stack;
+use stack::{Move, Stack};
 
 // The decided branch of an XOR block, seen from the branch that is being read: none, that many bars
-// ahead (this one at 0), or behind, with the signal that ended it.
+// ahead (this one at 0), or behind, with the signal that ended it. An `Option` of the last two would be no plainer:
+// `chosen` tells all three apart, `turned` looks for `Ahead` alone, and `xor_joined` for `Behind`.
 #[derive(Clone, Copy)]
 pub enum Choice {
     Undecided,
@@ -17,7 +17,7 @@ pub enum Choice {
     Behind(Signal),
 }
 
-// An open AND or XOR block.
+// An open AND or XOR block. Each flag is told apart from the value beside it, and neither hangs on the other.
 #[derive(Clone, Copy)]
 pub enum Opened {
     // the signal before the split, and whether each branch so far ended true
@@ -26,23 +26,22 @@ pub enum Opened {
     Xor(bool, Choice),
 }
 
-// What an element does: the signal after it, and the innermost open block.
-#[derive(Clone, Copy)]
-pub enum Move {
-    Stay(Signal),
-    Open(Signal, Opened),
-    Turn(Signal, Opened),
-    Close(Signal),
+// Whether a node is done with, if it is not skipped.
+pub(crate) fn is_done(fact: Fact) -> bool
+    ensures { result ≡ is_done fact }
+{
+    matches!(fact, Fact::Ended | Fact::Decided(_) | Fact::Left)
 }
 
-// The signal after a node's element, from its own signal.
-fn after_node(before: Signal, done: Fact) -> Signal
-    ensures { result ≡ after_node before done }
+// The signal after a node, from its own signal and whether it is done, or after an AND join, from the signal before the
+// split and whether every branch ended true.
+fn after(before: Signal, done: bool) -> Signal
+    ensures { result ≡ and_joined before done }
 {
     match (before, done) {
         (Signal::False, _) => Signal::False,
-        (_, Fact::Ended | Fact::Decided(_) | Fact::Left) => Signal::True,
-        (_, Fact::Nothing | Fact::Begun) => Signal::None,
+        (_, true) => Signal::True,
+        (_, false) => Signal::None,
     }
 }
 
@@ -59,10 +58,10 @@ fn choice_of(done: Fact) -> Choice
 fn chosen(skipped: bool, choice: Choice) -> Signal
     ensures { result ≡ chosen skipped choice }
 {
-    match choice {
-        Choice::Ahead(0) => Signal::True,
-        Choice::Ahead(_) | Choice::Behind(_) => Signal::False,
-        Choice::Undecided => { if skipped { Signal::False } else { Signal::None } }
+    match (choice, skipped) {
+        (Choice::Ahead(0), _) => Signal::True,
+        (Choice::Undecided, false) => Signal::None,
+        _ => Signal::False,
     }
 }
 
@@ -71,29 +70,9 @@ fn turned(choice: Choice, last: Signal) -> Choice
     ensures { result ≡ turned choice last }
 {
     match choice {
-        Choice::Undecided => Choice::Undecided,
         Choice::Ahead(0) => Choice::Behind(last),
         Choice::Ahead(bars) => Choice::Ahead(bars - 1),
-        Choice::Behind(ended) => Choice::Behind(ended),
-    }
-}
-
-pub(crate) fn is_true(signal: Signal) -> bool
-    ensures { result ≡ is_true signal }
-{
-    match signal {
-        Signal::True => true,
-        _ => false,
-    }
-}
-
-// The signal after an AND join.
-fn and_joined(before: Signal, all: bool) -> Signal
-    ensures { result ≡ and_joined before all }
-{
-    match before {
-        Signal::False => Signal::False,
-        _ => { if all { Signal::True } else { Signal::None } }
+        Choice::Undecided | Choice::Behind(_) => choice,
     }
 }
 
@@ -110,13 +89,13 @@ fn xor_joined(skipped: bool, choice: Choice, last: Signal) -> Signal
     }
 }
 
-fn at_bar(signal: Signal, top: Option<Opened>) -> Move
+fn at_bar(signal: Signal, top: Option<Opened>) -> Move<Signal, Opened>
     ensures { result ≡ at_bar signal top }
 {
     match top {
         Some(Opened::And(before, all)) => Move::Turn(
             before,
-            Opened::And(before, all & is_true(signal)),
+            Opened::And(before, all & (signal == Signal::True)),
         ),
         Some(Opened::Xor(skipped, choice)) => {
             let next = turned(choice, signal);
@@ -126,16 +105,19 @@ fn at_bar(signal: Signal, top: Option<Opened>) -> Move
     }
 }
 
-fn at_and_join(signal: Signal, top: Option<Opened>) -> Move
+fn at_and_join(signal: Signal, top: Option<Opened>) -> Move<Signal, Opened>
     ensures { result ≡ at_and_join signal top }
 {
     match top {
-        Some(Opened::And(before, all)) => Move::Close(and_joined(before, all & is_true(signal))),
+        Some(Opened::And(before, all)) => Move::Close(after(
+            before,
+            all & (signal == Signal::True),
+        )),
         _ => Move::Stay(signal),
     }
 }
 
-fn at_xor_join(signal: Signal, top: Option<Opened>) -> Move
+fn at_xor_join(signal: Signal, top: Option<Opened>) -> Move<Signal, Opened>
     ensures { result ≡ at_xor_join signal top }
 {
     match top {
@@ -144,27 +126,22 @@ fn at_xor_join(signal: Signal, top: Option<Opened>) -> Move
     }
 }
 
-fn is_false(signal: Signal) -> bool
-    ensures { result ≡ is_false signal }
-{
-    match signal {
-        Signal::False => true,
-        _ => false,
-    }
-}
-
-fn moves(facts: &[Fact], element: Element, signal: Signal, top: Option<Opened>) -> Move
+fn moves(
+    facts: &[Fact],
+    element: Element,
+    signal: Signal,
+    top: Option<Opened>,
+) -> Move<Signal, Opened>
     ensures { result ≡ moves facts.now element signal top }
 {
     match element {
-        Element::Activity(id) | Element::LoopEnd(id) => Move::Stay(after_node(
-            signal,
-            fact_of(facts, id),
-        )),
+        Element::Activity(id) | Element::LoopEnd(id) => {
+            Move::Stay(after(signal, is_done(fact_of(facts, id))))
+        }
         Element::LoopStart => Move::Stay(signal),
         Element::AndSplit => Move::Open(signal, Opened::And(signal, true)),
         Element::XorSplit(id) => {
-            let skipped = is_false(signal);
+            let skipped = signal == Signal::False;
             let choice = choice_of(fact_of(facts, id));
             Move::Open(chosen(skipped, choice), Opened::Xor(skipped, choice))
         }
@@ -176,34 +153,21 @@ fn moves(facts: &[Fact], element: Element, signal: Signal, top: Option<Opened>) 
 
 // Goes past an element that stands behind `signal`, and answers the signal behind it.
 fn pass(blocks: &mut Stack<Opened>, facts: &[Fact], element: Element, signal: Signal) -> Signal
-    requires { length (items blocks.old) < 128 }
-    ensures gap { gap result (items blocks.new) ≡ step facts.now element (gap signal (items blocks.old)) }
-    ensures depth { length (items blocks.new) ≤ length (items blocks.old) + 1 }
+    requires { length blocks.old < 128 }
+    ensures gap { gap result blocks.new ≡ step facts.now element (gap signal blocks.old) }
+    ensures depth { length blocks.new ≤ length blocks.old + 1 }
 {
-    match moves(facts, element, signal, blocks.top()) {
-        Move::Stay(next) => next,
-        Move::Open(next, block) => {
-            blocks.push(block);
-            next
-        }
-        Move::Turn(next, block) => {
-            blocks.pop();
-            blocks.push(block);
-            next
-        }
-        Move::Close(next) => {
-            blocks.pop();
-            next
-        }
-    }
+    let next = moves(facts, element, signal, blocks.top());
+    blocks.follow(next)
 }
 
-// Writes the signal of every gap of the row, whose nodes have these facts.
-pub(crate) fn mark(row: &[Element], facts: &[Fact], gaps: &mut [Signal])
-    requires few { length row.now ≤ 128 }
-    requires room { length gaps.old ≡ length row.now + 1 }
-    ensures { gaps.new ≡ signals facts.now start row.now }
+// The signals of the gaps of the row, whose nodes have these facts; nothing is told behind them.
+pub(crate) fn mark(row: &[Element], facts: &[Fact]) -> [Signal; 129]
+    requires { length row.now ≤ 128 }
+    ensures gaps { take (length row.now + 1) result ≡ signals facts.now start row.now }
+    ensures long { length result ≡ 129 }
 {
+    let mut gaps = [Signal::None; 129];
     let mut signal = Signal::True;
     let mut blocks = Stack::new(Opened::And(Signal::None, false));
     for (i, element) in row.iter().enumerate() {
@@ -211,4 +175,5 @@ pub(crate) fn mark(row: &[Element], facts: &[Fact], gaps: &mut [Signal])
         signal = pass(&mut blocks, facts, *element, signal);
     }
     gaps[row.len()] = signal;
+    gaps
 }

@@ -1,13 +1,25 @@
 // The states of a schema's nodes, from the signals of its gaps.
-ghost use Rattle.std.specs.Prelude.{◌≡◌, ◌+◌, length};
+ghost use Rattle.std.specs.Prelude.{◌≡◌, ◌+◌, length, take};
 ghost use Rattle.model.specs.Signals.{fact_of};
 ghost use Rattle.model.specs.States.{state_of};
 ghost use Rattle.schema.specs.Schemas.{parts};
-ghost use Rattle.marking.specs.States.{own, settled, free, state_by};
+ghost use Rattle.marking.specs.Machine.{signals, start};
+ghost use Rattle.marking.specs.States.{own, settled, free, state_in, finished_in};
 
+use crate::signals::{is_done, mark};
 use facts::fact_of;
-use model::{Edge, Fact, Signal, State};
+use model::{Fact, Signal, State};
 use schema::schema::Schema;
+
+// A schema, the facts of its nodes, and the signals of its gaps under them, in an array, since marking takes no memory.
+#[derive(Drop)]
+pub(crate) struct Signals<'a> {
+    schema: &'a Schema,
+    facts: &'a [Fact],
+    gaps: [Signal; 129],
+    ghost long: { length gaps ≡ 129 },
+    ghost told: { take (length (parts schema.now).row + 1) gaps ≡ signals facts.now start (parts schema.now).row },
+}
 
 // The state of a node, from its own signal, its fact, and whether every sync source is completed or skipped.
 fn state_of(signal: Signal, fact: Fact, free: bool) -> State
@@ -15,67 +27,69 @@ fn state_of(signal: Signal, fact: Fact, free: bool) -> State
 {
     match (signal, fact) {
         (Signal::False, _) => State::Skipped,
-        (_, Fact::Ended | Fact::Decided(_) | Fact::Left) => State::Completed,
+        _ if is_done(fact) => State::Completed,
         (_, Fact::Begun) => State::Running,
         (Signal::True, Fact::Nothing) if free => State::Activated,
         _ => State::NotActivated,
     }
 }
 
-// The signal of the gap before the node's element, if the schema has the node.
-fn own_signal(schema: &Schema, gaps: &[Signal], id: u8) -> Option<Signal>
-    requires { length gaps.now ≡ length (parts schema.now).row + 1 }
-    ensures { result ≡ own (parts schema.now).row gaps.now 0 id }
-{
-    match schema.place(id) {
-        Some(place) => Some(gaps[place]),
-        None => None,
-    }
-}
-
 fn settled(signal: Option<Signal>, fact: Fact) -> bool
     ensures { result ≡ settled signal fact }
 {
-    match (signal, fact) {
-        (None, _) => false,
-        (Some(Signal::False), _) => true,
-        (_, Fact::Ended | Fact::Decided(_) | Fact::Left) => true,
-        _ => false,
-    }
+    signal.is_some_and(|own| own == Signal::False || is_done(fact))
 }
 
-// Whether every source of these edges to a node is completed or skipped.
-fn is_free(schema: &Schema, edges: &[Edge], facts: &[Fact], gaps: &[Signal], id: u8) -> bool
-    requires { length gaps.now ≡ length (parts schema.now).row + 1 }
-    ensures { result ≡ free (parts schema.now).row gaps.now facts.now edges.now id }
-{
-    for edge in edges {
-        if edge.target == id && !is_settled(schema, facts, gaps, edge.source) {
-            return false;
+impl<'a> Signals<'a> {
+    pub(crate) fn of(schema: &'a Schema, facts: &'a [Fact]) -> Signals<'a>
+        ensures schema { result.schema.now ≡ schema.now }
+        ensures facts { result.facts.now ≡ facts.now }
+    {
+        Signals {
+            schema,
+            facts,
+            gaps: mark(schema.row(), facts),
         }
     }
-    true
-}
 
-// Whether a node is completed or skipped.
-fn is_settled(schema: &Schema, facts: &[Fact], gaps: &[Signal], id: u8) -> bool
-    requires { length gaps.now ≡ length (parts schema.now).row + 1 }
-    ensures { result ≡ settled (own (parts schema.now).row gaps.now 0 id) (fact_of facts.now id) }
-{
-    settled(own_signal(schema, gaps, id), fact_of(facts, id))
-}
+    // The signal of the gap before the node's element, if the schema has the node.
+    fn own(&self, id: u8) -> Option<Signal>
+        ensures { result ≡ own (parts self.now.schema.now).row (signals self.now.facts.now start (parts self.now.schema.now).row) 0 id }
+    {
+        let place = self.schema.place(id)?;
+        Some(self.gaps[place])
+    }
 
-// The state of a node, if the schema has it.
-pub(crate) fn state_by(schema: &Schema, facts: &[Fact], gaps: &[Signal], id: u8) -> Option<State>
-    requires { length gaps.now ≡ length (parts schema.now).row + 1 }
-    ensures { result ≡ state_by (parts schema.now).row gaps.now facts.now (parts schema.now).edges id }
-{
-    match own_signal(schema, gaps, id) {
-        Some(signal) => Some(state_of(
-            signal,
-            fact_of(facts, id),
-            is_free(schema, schema.edges(), facts, gaps, id),
-        )),
-        None => None,
+    // Whether a node is completed or skipped.
+    fn is_settled(&self, id: u8) -> bool
+        ensures { result ≡ settled (own (parts self.now.schema.now).row (signals self.now.facts.now start (parts self.now.schema.now).row) 0 id) (fact_of self.now.facts.now id) }
+    {
+        settled(self.own(id), fact_of(self.facts, id))
+    }
+
+    // Whether every sync source of a node is completed or skipped.
+    fn is_free(&self, id: u8) -> bool
+        ensures { result ≡ free (parts self.now.schema.now).row (signals self.now.facts.now start (parts self.now.schema.now).row) self.now.facts.now (parts self.now.schema.now).edges id }
+    {
+        self.schema
+            .edges()
+            .iter()
+            .all(|edge| edge.target != id || self.is_settled(edge.source))
+    }
+
+    // The state of a node, if the schema has it.
+    pub(crate) fn state(&self, id: u8) -> Option<State>
+        ensures { result ≡ state_in (parts self.now.schema.now).row (parts self.now.schema.now).edges self.now.facts.now id }
+    {
+        let signal = self.own(id)?;
+        Some(state_of(signal, fact_of(self.facts, id), self.is_free(id)))
+    }
+
+    // Whether the case is finished: the gap behind the row is true.
+    pub(crate) fn is_finished(&self) -> bool
+        ensures { result ≡ finished_in (parts self.now.schema.now).row self.now.facts.now }
+    {
+        let last = self.gaps[self.schema.row().len()];
+        last == Signal::True
     }
 }

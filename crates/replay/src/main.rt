@@ -1,119 +1,141 @@
 // Replays cases on a schema, entry by entry. The first line of standard input is the schema, the others are cases.
 #![tactic(auto)]
 
-use case_record::CaseRecord;
+use case_record::{CaseRecord, RawEntry};
 use facts::Facts;
 use input::next_line;
 use marking::marking::Marking;
 use model::refusal::{CaseRefusal, Reason};
 use model::{Entry, State};
 use record::{LineBuffer, Record};
-use runs::histories::{run, take};
+use runs::histories::run;
+use runs::steps::step;
 use schema::schema::Schema;
 use schema::space::Space;
+use std::fmt;
 use std::io::{BufReader, BufWriter, Write};
 
-// The ids of the nodes in a state, ascending, with the branch of those that decided one.
-fn show_ids<W: Write>(out: &mut W, marking: &Marking, state: State) -> anyhow::Result<()> {
-    let mut none = true;
-    for id in 0..64u8 {
-        if marking.state(id) == Some(state) {
-            none = false;
-            match marking.branch(id) {
-                Some(branch) => write!(out, " {id}:{branch}")?,
-                None => write!(out, " {id}")?,
+// Prints as the ids of the nodes in a state, ascending, with the branch of those that decided one.
+#[derive(Clone, Copy)]
+struct Nodes<'a> {
+    marking: &'a Marking,
+    state: State,
+}
+
+impl<'a> Nodes<'a> {
+    fn of(marking: &'a Marking, state: State) -> Nodes<'a> {
+        Nodes { marking, state }
+    }
+}
+
+impl fmt::Display for Nodes<'_> {
+    fn fmt<W: fmt::Write>(&self, f: &mut fmt::Formatter<W>) -> fmt::Result {
+        let mut none = true;
+        // over all ids: a marking has no items to go over
+        for id in 0..64u8 {
+            if self.marking.state(id) == Some(self.state) {
+                none = false;
+                match self.marking.branch(id) {
+                    Some(branch) => write!(f, " {id}:{branch}")?,
+                    None => write!(f, " {id}")?,
+                }
             }
         }
-    }
-    if none {
-        write!(out, " -")?;
-    }
-    Ok(())
-}
-
-fn show_entry<W: Write>(out: &mut W, entry: Entry) -> anyhow::Result<()> {
-    match entry {
-        Entry::Start(id) => write!(out, "START {id}")?,
-        Entry::End(id) => write!(out, "END {id}")?,
-        Entry::Choose(id, branch) => write!(out, "CHOOSE {id} branch {branch}")?,
-        Entry::Leave(id) => write!(out, "LEAVE {id}")?,
-    }
-    Ok(())
-}
-
-// A line for each entry up to the first that is refused: its place, what it is, and what is activated after it.
-fn trace<W: Write>(out: &mut W, schema: &Schema, history: CaseRecord<'_>) -> anyhow::Result<()> {
-    let mut facts = Facts::none();
-    for place in 0..history.len() {
-        let Some(raw) = history.entry(place) else {
-            return Ok(());
-        };
-        let Some(entry) = Entry::from_bytes(raw.kind, raw.id, raw.branch) else {
-            return Ok(());
-        };
-        match take(schema, &mut facts, raw) {
-            Ok(()) => {}
-            Err(_) => return Ok(()),
+        if none {
+            write!(f, " -")?;
         }
-        write!(out, "{place:>5} ")?;
-        show_entry(out, entry)?;
-        write!(out, ": activated")?;
-        show_ids(out, &Marking::of(schema, &facts), State::Activated)?;
-        writeln!(out)?;
+        Ok(())
     }
-    Ok(())
 }
 
-// What the nodes are doing after all entries.
-fn show_marking<W: Write>(out: &mut W, marking: &Marking) -> anyhow::Result<()> {
-    write!(out, "activated")?;
-    show_ids(out, marking, State::Activated)?;
-    write!(out, "; running")?;
-    show_ids(out, marking, State::Running)?;
-    write!(out, "; completed")?;
-    show_ids(out, marking, State::Completed)?;
-    write!(out, "; skipped")?;
-    show_ids(out, marking, State::Skipped)?;
-    write!(out, "; not activated")?;
-    show_ids(out, marking, State::NotActivated)?;
-    if marking.is_finished() {
-        write!(out, "; finished")?;
-    }
-    writeln!(out)?;
-    Ok(())
-}
+// Prints as what the nodes are doing.
+#[derive(Clone, Copy)]
+struct Summary<'a>(&'a Marking);
 
-fn refuse<W: Write>(out: &mut W, number: u32, reason: Reason) -> anyhow::Result<()> {
-    writeln!(out, "case {number}: {reason}")?;
-    Ok(())
-}
-
-fn replay<W: Write>(out: &mut W, schema: &Schema, history: CaseRecord<'_>) -> anyhow::Result<()> {
-    trace(out, schema, history)?;
-    let number = history.number;
-    let mut facts = Facts::none();
-    match run(schema, &mut facts, history) {
-        Ok(()) => {
-            let entries = history.len();
-            write!(out, "case {number}: runs, {entries} entries; ")?;
-            show_marking(out, &Marking::of(schema, &facts))
+impl fmt::Display for Summary<'_> {
+    fn fmt<W: fmt::Write>(&self, f: &mut fmt::Formatter<W>) -> fmt::Result {
+        let activated = Nodes::of(self.0, State::Activated);
+        let running = Nodes::of(self.0, State::Running);
+        let completed = Nodes::of(self.0, State::Completed);
+        let skipped = Nodes::of(self.0, State::Skipped);
+        let not_activated = Nodes::of(self.0, State::NotActivated);
+        write!(
+            f,
+            "activated{activated}; running{running}; completed{completed}; "
+        )?;
+        write!(f, "skipped{skipped}; not activated{not_activated}")?;
+        if self.0.is_finished() {
+            write!(f, "; finished")?;
         }
-        Err(refusal) => refuse(out, number, refusal.reason()),
+        Ok(())
     }
 }
 
-// Replays the case that a line says, or tells that it says none.
+// Prints as the replay of a case on a schema: a trace, and last what it came to.
+#[derive(Clone, Copy)]
+struct Replay<'s, 'h> {
+    schema: &'s Schema,
+    history: CaseRecord<'h>,
+}
+
+impl Replay<'_, '_> {
+    // A line for each entry up to the first that is refused: its place, what it is, and what is activated after it.
+    fn trace<W: fmt::Write>(&self, f: &mut fmt::Formatter<W>) -> fmt::Result {
+        let mut facts = Facts::none();
+        for (place, &bytes) in self.history.pieces().iter().enumerate() {
+            let Ok(entry) = Entry::try_from(RawEntry::from(bytes)) else {
+                return Ok(());
+            };
+            if step(self.schema, &mut facts, entry).is_err() {
+                return Ok(());
+            }
+            let marking = Marking::of(self.schema, &facts);
+            let activated = Nodes::of(&marking, State::Activated);
+            writeln!(f, "{place:>5} {entry}: activated{activated}")?;
+        }
+        Ok(())
+    }
+}
+
+impl fmt::Display for Replay<'_, '_> {
+    fn fmt<W: fmt::Write>(&self, f: &mut fmt::Formatter<W>) -> fmt::Result {
+        self.trace(f)?;
+        let mut facts = Facts::none();
+        let ran = run(self.schema, &mut facts, self.history);
+        let number = self.history.number;
+        match ran {
+            Ok(()) => {
+                let entries = self.history.len();
+                let marking = Marking::of(self.schema, &facts);
+                let summary = Summary(&marking);
+                writeln!(f, "case {number}: runs, {entries} entries; {summary}")
+            }
+            Err(refusal) => writeln!(f, "case {number}: {}", Reason::from(refusal)),
+        }
+    }
+}
+
+// What is told of a line that says no case, or of any line after a refused schema.
+fn refuse<W: Write, R: Into<Reason>>(out: &mut W, refusal: R) -> anyhow::Result<()> {
+    let reason = refusal.into();
+    writeln!(out, "case 0: {reason}")?;
+    Ok(())
+}
+
+// Replays the case that a line says, or tells that it says none: in three steps, since each borrows from the one before.
 fn replay_line<W: Write>(out: &mut W, schema: &Schema, line: &LineBuffer) -> anyhow::Result<()> {
     let Some(characters) = line.line() else {
-        return refuse(out, 0, CaseRefusal::Line.reason());
+        return refuse(out, CaseRefusal::Line);
     };
-    let Some(decoded) = Record::decode(characters) else {
-        return refuse(out, 0, CaseRefusal::Line.reason());
+    let Ok(record) = Record::try_from(characters) else {
+        return refuse(out, CaseRefusal::Line);
     };
-    match CaseRecord::read(decoded.bytes()) {
-        Some(history) => replay(out, schema, history),
-        None => refuse(out, 0, CaseRefusal::Line.reason()),
-    }
+    let Ok(history) = CaseRecord::try_from(record.bytes()) else {
+        return refuse(out, CaseRefusal::Line);
+    };
+    let replay = Replay { schema, history };
+    write!(out, "{replay}")?;
+    Ok(())
 }
 
 fn run_all(rt: &HostRuntime) -> anyhow::Result<()> {
@@ -125,13 +147,14 @@ fn run_all(rt: &HostRuntime) -> anyhow::Result<()> {
     }
     let space = Space::new(rt.alloc())?;
     let schema = Schema::read_buffered(space, &line);
+    // a count, since input may never end and each loop is proved to end
     for _ in 0..u64::MAX {
         if !next_line(&mut input, &mut line)? {
             break;
         }
         match &schema {
             Ok(schema) => replay_line(&mut out, schema, &line)?,
-            Err(refusal) => refuse(&mut out, 0, refusal.reason())?,
+            Err(refusal) => refuse(&mut out, *refusal)?,
         }
     }
     out.flush()?;

@@ -44,11 +44,11 @@ use Rattle.rounds.proofs.RoundSets.{decides_among}
 -- nothing grows to nothing only
 from_nothing : (f : Fact) → Grown f Nothing → f ≡ Nothing
 from_nothing Nothing h = refl
-from_nothing Begun (inl e) = absurd (let z : ◌≡◌ {A = ℕ} 0 1 = cc in omega arith)
-from_nothing Begun (inr e) = absurd (let z : ◌≡◌ {A = ℕ} 0 1 = cc in omega arith)
-from_nothing Ended h = absurd (let z : ◌≡◌ {A = ℕ} 0 1 = cc in omega arith)
-from_nothing (Decided b) h = absurd (let z : ◌≡◌ {A = ℕ} 0 1 = cc in omega arith)
-from_nothing Left h = absurd (let z : ◌≡◌ {A = ℕ} 0 1 = cc in omega arith)
+from_nothing Begun (inl e) = absurd (grind arith)
+from_nothing Begun (inr e) = absurd (grind arith)
+from_nothing Ended h = absurd (grind arith)
+from_nothing (Decided b) h = absurd (grind arith)
+from_nothing Left h = absurd (grind arith)
 
 sets_something : (e : Entry) → fact_set e ≡ Nothing → ⊥
 sets_something (Start i) h = let z : ◌≡◌ {A = ℕ} 0 1 = cc in omega arith
@@ -123,7 +123,7 @@ module _ (S : SchemaParts) (c : Admitted S) (t : Seq) (is : S.row ≡ flatten t)
 
   -- entry by entry
   dropped : (fs gs : List Fact) (es : List Entry) → length fs ≡ 64 → Sound S.row fs → Runs S fs es gs → fact_of gs i ≡ Nothing → Runs S (reset P fs) (outside P es) (reset P gs)
-  dropped fs gs [] n s ends q = ends
+  dropped fs _ [] n s ends q = ends
   dropped fs gs (e ∷ es) n s (steps a r) q =
       go (P (entry_id e)) refl (dropped (set fs (entry_id e) (fact_set e)) gs es (length-set fs (entry_id e) (fact_set e) ∙ n) (step_sound S c.passed fs e n s a) r q)
     where
@@ -192,28 +192,28 @@ module _ (i : ℕ) where
         next (inr h) f = ⊎_elim (λ k. inl (k.0, inr k.1)) inr (f h)
 
     loop_of_item : (x : Item) (ys : List Element) → HasEnd (spell_item x ys) i → InLoop (λ z. (z ≡ x) ⊎ HoldsItem x z) ⊎ HasEnd ys i
-    loop_of_item (activity j) ys (inl e) = absurd (let z : ◌≡◌ {A = ℕ} 0 1 = cc in omega arith)
+    loop_of_item (activity j) ys (inl e) = absurd (grind arith)
     loop_of_item (activity j) ys (inr h) = inr h
-    loop_of_item (loop t j) ys (inl e) = absurd (let z : ◌≡◌ {A = ℕ} 0 1 = cc in omega arith)
+    loop_of_item (loop t j) ys (inl e) = absurd (grind arith)
     loop_of_item (loop t j) ys (inr h) = next (loop_of t (LoopEnd j ∷ ys) h)
       where
         next : InLoop (Holds t) ⊎ ((LoopEnd j ≡ LoopEnd i) ⊎ HasEnd ys i) → InLoop (λ z. (z ≡ loop t j) ⊎ Holds t z) ⊎ HasEnd ys i
         next (inl (u, k)) = inl (u, inr k)
         next (inr (inl e)) = let same : j ≡ i = cc in inl (t, inl (ap (loop t) (sym same)))
         next (inr (inr k)) = inr k
-    loop_of_item (and b) ys (inl e) = absurd (let z : ◌≡◌ {A = ℕ} 0 1 = cc in omega arith)
+    loop_of_item (and b) ys (inl e) = absurd (grind arith)
     loop_of_item (and b) ys (inr h) = next (loop_of_branches b (AndJoin ∷ ys) h)
       where
         next : InLoop (HoldsBranches b) ⊎ ((AndJoin ≡ LoopEnd i) ⊎ HasEnd ys i) → InLoop (λ z. (z ≡ and b) ⊎ HoldsBranches b z) ⊎ HasEnd ys i
         next (inl (u, k)) = inl (u, inr k)
-        next (inr (inl e)) = absurd (let z : ◌≡◌ {A = ℕ} 0 1 = cc in omega arith)
+        next (inr (inl e)) = absurd (grind arith)
         next (inr (inr k)) = inr k
-    loop_of_item (xor j b) ys (inl e) = absurd (let z : ◌≡◌ {A = ℕ} 0 1 = cc in omega arith)
+    loop_of_item (xor j b) ys (inl e) = absurd (grind arith)
     loop_of_item (xor j b) ys (inr h) = next (loop_of_branches b (XorJoin ∷ ys) h)
       where
         next : InLoop (HoldsBranches b) ⊎ ((XorJoin ≡ LoopEnd i) ⊎ HasEnd ys i) → InLoop (λ z. (z ≡ xor j b) ⊎ HoldsBranches b z) ⊎ HasEnd ys i
         next (inl (u, k)) = inl (u, inr k)
-        next (inr (inl e)) = absurd (let z : ◌≡◌ {A = ℕ} 0 1 = cc in omega arith)
+        next (inr (inl e)) = absurd (grind arith)
         next (inr (inr k)) = inr k
 
     loop_of_branches : (b : Branches) (ys : List Element) → HasEnd (spell_branches b ys) i → InLoop (HoldsBranches b) ⊎ HasEnd ys i
@@ -223,7 +223,7 @@ module _ (i : ℕ) where
         next : InLoop (Holds t) ⊎ ((Bar ≡ LoopEnd i) ⊎ HasEnd (spell_branches b ys) i) → (HasEnd (spell_branches b ys) i → InLoop (HoldsBranches b) ⊎ HasEnd ys i)
             → InLoop (HoldsBranches (bar t b)) ⊎ HasEnd ys i
         next (inl (u, k)) f = inl (u, inl k)
-        next (inr (inl e)) f = absurd (let z : ◌≡◌ {A = ℕ} 0 1 = cc in omega arith)
+        next (inr (inl e)) f = absurd (grind arith)
         next (inr (inr k)) f = ⊎_elim (λ m. inl (m.0, inr m.1)) inr (f k)
 
   -- what a test can be left at is its loop end

@@ -107,11 +107,11 @@ AllJoined t (e ∷ es) = Joins t e.source e.target × AllJoined t es
 answer_joined : (t : Seq) (Before : ℕ → ℕ → Type 0) (es earlier : List Edge) (p : ℕ) → Answer (Joins t) Before earlier p es (Ok tt) → AllJoined t es
 answer_joined t Before [] earlier p a = tt
 answer_joined t Before (e ∷ es) earlier p (inl (ok, a)) = (ok.joins, answer_joined t Before es (earlier ++ e ∷ []) (p + 1) a)
-answer_joined t Before (e ∷ es) earlier p (inr (bad, a)) = absurd (let z : ◌≡◌ {A = ℕ} 0 1 = cc in omega arith)
+answer_joined t Before (e ∷ es) earlier p (inr (bad, a)) = absurd (grind arith)
 
 from_is_ok : (r : Result (Unit {0}) (ℕ × ℕ)) → is_ok r ≡ true → r ≡ Ok tt
 from_is_ok (Ok tt) e = refl
-from_is_ok (Err k) e = absurd (let z : ◌≡◌ {A = ℕ} 0 1 = cc in omega arith)
+from_is_ok (Err k) e = absurd (grind arith)
 
 -- every edge of a schema that passed the checks joins what may be joined
 pub checked_joined : (S : SchemaParts) → Admitted S → (t : Seq) → S.row ≡ flatten t → AllJoined t S.edges

@@ -14,7 +14,7 @@ use Rattle.model.specs.Nodes.{Holds, HoldsItem, HoldsBranches}
 use Rattle.model.specs.Relations.{In, InItem, InBranches}
 use Rattle.model.specs.Signals.{fact_of, is_true, is_false, unless_false, after_node, and_joined, decided, is_branch, head_of, ends, after, all_true, decided_end, gaps, gaps_item, gaps_and, gaps_xor, tree_signals}
 use Rattle.edges.proofs.TreeOrder.{Once, OnceItem, OnceBranches}
-use Rattle.schema.specs.Reading.{is_id}
+use Rattle.ids.specs.Sets.{is_id}
 use Rattle.schema.proofs.Wrongs.{decides_bears}
 use Rattle.marking.specs.States.{own}
 use Rattle.agreement.proofs.FalseBlocks.{ends_false}

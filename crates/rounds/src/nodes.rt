@@ -1,49 +1,35 @@
 // The nodes of a loop's round.
-ghost use Rattle.std.specs.Prelude.{◌≡◌, ℕ, ◌-◌, ◌≤◌, ◌&&◌, ◌||◌, length, take, drop, nat_lt};
+ghost use Rattle.std.specs.Prelude.{◌≡◌, ℕ, ◌&&◌, [], MatchOption, nat_lt};
 ghost use Rattle.ids.specs.Sets.{has};
-ghost use Rattle.model.specs.Elements.{node_id};
-ghost use Rattle.schema.specs.Reading.{is_id, among};
+ghost use Rattle.schema.specs.Reading.{among};
 ghost use Rattle.schema.specs.Schemas.{parts};
-ghost use Rattle.rounds.specs.Rounds.{in_round};
+ghost use Rattle.rounds.specs.Rounds.{between, in_round};
 
 use ids::IdSet;
 use model::Element;
 use schema::schema::Schema;
 
-// The ids, with that of the element.
-fn with_node(ids: IdSet, element: Element) -> IdSet
-    ensures { (id : ℕ) → has result id ≡ (has ids id || (nat_lt id 64 && is_id (node_id element) id)) }
+// The elements between a loop's start and its test, if the schema has this test.
+fn round(schema: &Schema, test: u8) -> Option<&[Element]>
+    ensures { MatchOption result (between (parts schema.now).row test ≡ []) (λ xs. xs.now ≡ between (parts schema.now).row test) }
 {
-    match element.id() {
-        Some(id) => ids.union(IdSet::only(id)),
-        None => ids,
-    }
+    let end = schema.place(test)?;
+    let start = schema.position(end)?.block?;
+    schema.row().get(usize::from(start) + 1..end)
 }
 
-// The ids of the nodes from place `from` on and before `to`.
-fn nodes_between(row: &[Element], from: usize, to: usize) -> IdSet
-    requires { to ≤ length row.now }
-    ensures { (id : ℕ) → has result id ≡ (nat_lt id 64 && among (take (to - from) (drop from row.now)) id) }
+// The ids of the nodes among these elements.
+fn nodes_of(elements: &[Element]) -> IdSet
+    ensures { (id : ℕ) → has result id ≡ (nat_lt id 64 && among elements.now id) }
 {
-    let mut ids = IdSet::empty();
-    for place in from..to {
-        ids = with_node(ids, row[place]);
-    }
-    ids
+    elements
+        .iter()
+        .fold(IdSet::empty(), |ids, element| ids.with(element.id()))
 }
 
 // The ids of the nodes between a loop's start and its test.
 pub fn round_of(schema: &Schema, test: u8) -> IdSet
     ensures { (id : ℕ) → has result id ≡ in_round (parts schema.now).row test id }
 {
-    match schema.place(test) {
-        Some(end) => match schema.position(end) {
-            Some(position) => match position.block {
-                Some(start) => nodes_between(schema.row(), start as usize + 1, end),
-                None => IdSet::empty(),
-            },
-            None => IdSet::empty(),
-        },
-        None => IdSet::empty(),
-    }
+    nodes_of(round(schema, test).unwrap_or(&[]))
 }

@@ -3,14 +3,15 @@ use Rattle.std.proofs.Common.{◌≡◌, ℕ, ◌+◌, ◌<◌, List, [], ◌∷
 use Rattle.std.proofs.lemmas.List.{append-nil, append_assoc, at_drop_more}
 use Rattle.model.specs.declared.Entry.{Entry}
 use Rattle.model.specs.declared.Fact.{Fact}
+use Rattle.model.specs.declared.refusal.CaseRefusal.{CaseRefusal}
 use Rattle.model.specs.declared.refusal.StepRefusal.{StepRefusal}
 use Rattle.model.specs.declared.refusal.StepRefusal.TheVariants as refusal
 use Rattle.model.specs.Entries.{entry_id, fact_set, EntryBytes, entry_read}
 use Rattle.model.proofs.EntryBytes.{entry_is, is_entry}
 use Rattle.case_record.specs.declared.RawEntry.{RawEntry}
 use Rattle.schema.specs.Checks.{SchemaParts}
-use Rattle.runs.specs.Steps.{Allowed, Runs, ends, steps, step_in, judged}
-use Rattle.runs.specs.Histories.{Ran, ran_to, judged_raw, stopped, then_ran, ran, Spelled, RunTold}
+use Rattle.runs.specs.Steps.{Allowed, Runs, ends, steps, step_in, judged, Stepped}
+use Rattle.runs.specs.Histories.{Ran, ran_to, judged_raw, stopped, verdict, then_ran, ran, Spelled, RunTold}
 use Rattle.runs.proofs.Allows.{allowed_step, step_allowed, step_refused}
 
 spelled_last : (rs : List RawEntry) (es : List Entry) (r : RawEntry) (e : Entry) → Spelled rs es → EntryBytes r.kind r.id r.branch e → Spelled (rs ++ r ∷ []) (es ++ e ∷ [])
@@ -77,3 +78,14 @@ module _ (S : SchemaParts) (rs : List RawEntry) (fs : List Fact) (p : ℕ) (r d 
       at_drop_more (ran S fs p) rs p d h
       ∙ ap (λ q. then_ran fs p q (judged_raw S fs q) (λ gs. ran S gs (p + 1) (drop (p + 1) rs))) (sym is)
       ∙ ap (λ w. then_ran fs p r w (λ gs. ran S gs (p + 1) (drop (p + 1) rs))) e
+
+-- What a step and the telling of its refusal say of the rest of a run.
+module _ (fs gs : List Fact) (p : ℕ) (r : RawEntry) (v : Result (List Fact) StepRefusal) where
+  pub goes_on : (t : Result (Unit {0}) StepRefusal) → Stepped v fs gs t → (t ≡ Ok tt) → v ≡ Ok gs
+  goes_on (Ok u) s is = s
+  goes_on (Err k) s is = let z : ◌≡◌ {A = ℕ} 0 1 = cc in absurd (omega arith)
+
+  pub stops_here : (t : Result (Unit {0}) StepRefusal) (m : Result (Unit {0}) CaseRefusal) → Stepped v fs gs t → (k : StepRefusal) × (t ≡ Err k) × (m ≡ Err (stopped p r k)) → (rest : List Fact → Ran)
+      → (m ≡ verdict (then_ran fs p r v rest).refusal) × (gs ≡ (then_ran fs p r v rest).facts)
+  stops_here (Ok u) m s (k, is, told) rest = let z : ◌≡◌ {A = ℕ} 0 1 = cc in absurd (omega arith)
+  stops_here (Err e) m s (k, is, told) rest = let same : e ≡ k = cc in rw s.0 (told ∙ ap (λ i. Err (stopped p r i)) (sym same), s.1)

@@ -17,10 +17,8 @@ use schema::schema::Schema;
 pub fn take(schema: &Schema, facts: &mut Facts, raw: RawEntry) -> Result<(), StepRefusal>
     ensures { Stepped (judged_raw (parts schema.now) (facts_by_id facts.old) raw) (facts_by_id facts.old) (facts_by_id facts.new) result }
 {
-    match Entry::from_bytes(raw.kind, raw.id, raw.branch) {
-        Some(entry) => step(schema, facts, entry),
-        None => Err(StepRefusal::Node),
-    }
+    let entry = Entry::try_from(raw)?;
+    step(schema, facts, entry)
 }
 
 // Runs the entries of a record. It stops at the first that is no allowed step, with the facts of before it.
@@ -30,21 +28,9 @@ pub fn run(schema: &Schema, facts: &mut Facts, history: CaseRecord<'_>) -> Resul
     ensures told { RunTold (parts schema.now) (facts_by_id facts.old) (entries_in history.entry.entries.now) (ran (parts schema.now) (facts_by_id facts.old) 0 (entries_in history.entry.entries.now)) }
     ensures only { RunOnly (parts schema.now) (facts_by_id facts.old) (entries_in history.entry.entries.now) (ran (parts schema.now) (facts_by_id facts.old) 0 (entries_in history.entry.entries.now)) }
 {
-    for place in 0..history.len() {
-        let raw = match history.entry(place) {
-            Some(raw) => raw,
-            None => unreachable(),
-        };
-        match take(schema, facts, raw) {
-            Ok(()) => {}
-            Err(refusal) => {
-                return Err(CaseRefusal::Step {
-                    place: Some(place),
-                    id: raw.id,
-                    refusal,
-                });
-            }
-        }
+    for (place, &bytes) in history.pieces().iter().enumerate() {
+        let raw = RawEntry::from(bytes);
+        take(schema, facts, raw).map_err(|refusal| refusal.of(Some(place), raw.id))?;
     }
     Ok(())
 }

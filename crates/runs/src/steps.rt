@@ -14,29 +14,22 @@ use schema::schema::Schema;
 fn branch_exists(schema: &Schema, place: usize, branch: u8) -> bool
     ensures { result ≡ branch_in (parts schema.now).row place branch }
 {
-    match schema.end(place) {
-        Some(end) => match schema.position(end) {
-            Some(position) => branch <= position.branch,
-            None => false,
-        },
-        None => false,
-    }
+    let join = schema.end(place).and_then(|end| schema.position(end));
+    join.is_some_and(|position| branch <= position.branch)
 }
 
 // Whether the schema has a node of the entry's kind with its id, and the branch of a choice.
 fn fits(schema: &Schema, entry: Entry) -> bool
     ensures { result ≡ fits_in (parts schema.now).row entry }
 {
-    match schema.place(entry.id()) {
-        Some(place) => match (schema.row()[place], entry) {
-            (Element::Activity(_), Entry::Start(_) | Entry::End(_)) => true,
-            (Element::XorSplit(_), Entry::Choose(_, branch)) => branch_exists(
-                schema, place, branch,
-            ),
-            (Element::LoopEnd(_), Entry::Leave(_)) => true,
-            _ => false,
-        },
-        None => false,
+    let Some(place) = schema.place(entry.id()) else {
+        return false;
+    };
+    match (schema.row()[place], entry) {
+        (Element::Activity(_), Entry::Start(_) | Entry::End(_)) => true,
+        (Element::XorSplit(_), Entry::Choose(_, branch)) => branch_exists(schema, place, branch),
+        (Element::LoopEnd(_), Entry::Leave(_)) => true,
+        _ => false,
     }
 }
 
@@ -53,7 +46,9 @@ fn next_fact(state: State, entry: Entry) -> Option<Fact>
     }
 }
 
-// Takes one step: its fact is noted, or it is refused and nothing changes.
+// Takes one step: its fact is noted, or it is refused and nothing changes. The facts stay apart from the schema, since a
+// caller may try a step on a copy of them.
+#[tactic(auto, using(crate::proofs::NodesFit::node_told))]
 pub fn step(schema: &Schema, facts: &mut Facts, entry: Entry) -> Result<(), StepRefusal>
     ensures after { Stepped (step_in (parts schema.now) (facts_by_id facts.old) entry) (facts_by_id facts.old) (facts_by_id facts.new) result }
     ensures node { NodeTold (parts schema.now).row entry }
@@ -61,15 +56,8 @@ pub fn step(schema: &Schema, facts: &mut Facts, entry: Entry) -> Result<(), Step
     if !fits(schema, entry) {
         return Err(StepRefusal::Node);
     }
-    let next = match node_state(schema, facts, entry.id()) {
-        Some(state) => next_fact(state, entry),
-        None => None,
-    };
-    match next {
-        Some(fact) => {
-            facts.note(entry.id(), fact);
-            Ok(())
-        }
-        None => Err(StepRefusal::State),
-    }
+    let state = node_state(schema, facts, entry.id());
+    let next = state.and_then(|state| next_fact(state, entry));
+    facts.note(entry.id(), next.ok_or(StepRefusal::State)?);
+    Ok(())
 }

@@ -1,11 +1,12 @@
+use Rattle.std.proofs.Common.{arith}
 use Rattle.schema.specs.Schemas.{parts}
 use Rattle.schema.proofs.Checked.{checked_fine}
-use Rattle.rounds.proofs.RoundSets.{nodes_in_round}
+use Rattle.rounds.proofs.RoundSets.{low_between}
 use Rattle.rounds.proofs.nodes.round_of.Goals as goal
 
-pub returns-in-Some-block : goal.returns-in-Some-block
-returns-in-Some-block c id =
+pub returns : goal.returns
+returns c id =
     let s = parts c.args.schema.now in
     let fine = checked_fine s.row s.edges c.args.schema.now.passed in
-    nodes_in_round s.row fine.1 c.row.result.now c.args.test c.in-Some.end c.in-Some-block.start id c.in-Some-position.position _
-    c.row.ensures.value c.in-Some.ensures.value c.in-Some-position.ensures.value c.in-Some-block.is (c.nodes_between.ensures id)
+    let low = low_between s.row fine.1 id c.args.test in
+    grind (arith, low, c.nodes_of.ensures id, c.unwrap_or.ensures, c.round.ensures)

@@ -1,8 +1,0 @@
-use Rattle.std.proofs.Common.{◌≤◌, length, sym, arith}
-use Rattle.std.proofs.lemmas.List.{get_or_past}
-use Rattle.marking.proofs.marking.Marking.branch.Goals as goal
-
-pub returns-else-id-lt64 : goal.returns-else-id-lt64
-returns-else-id-lt64 c =
-    let past : length c.args.self.now.branches ≤ c.args.id = omega arith in
-    sym (get_or_past _ _ _ past)
