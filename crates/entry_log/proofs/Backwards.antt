@@ -1,93 +1,102 @@
--- The live entries of a log's last records, one record more in front. Assumes nothing.
-use Rattle.std.proofs.Common.{◌≡◌, ℕ, zero, suc, ◌+◌, ◌-◌, ◌<◌, ◌≤◌, Bool, true, false, cond, ◌||◌, List, [], ◌∷◌, ◌++◌, length, get_or, drop, Some, sym, refl, ap, ◌∙◌, subst, arith, length-append}
+-- Records read from the last one back. Assumes nothing.
+use Rattle.std.proofs.Common.{◌≡◌, ℕ, ◌+◌, ◌-◌, length, get_or, Some, None, Option, subst, Bool, true, false, cond, not, ◌||◌, List, [], ◌∷◌, ◌++◌, reverse, sym, refl, ap, ◌∙◌, arith, append-nil}
+use Rattle.std.specs.Iterator.{YieldsFirst, FindsPosition}
 use Rattle.std.specs.List.{slice_get}
-use Rattle.std.proofs.lemmas.List.{drop_more, drop_all}
+use Rattle.std.specs.Option.{MatchOption}
+use Rattle.std.proofs.lemmas.List.{reverse-append, reverse-reverse, length-reverse, get_or-reverse}
+use Rattle.std.proofs.lemmas.Option.{slice_get-get_or}
+use denote.Param.Members.{Mut, Called}
+use Rattle.std.proofs.lemmas.List.Elements.{filter-append}
 use Rattle.ids.specs.declared.IdSet.{IdSet}
 use Rattle.ids.specs.Sets.{has}
 use Rattle.model.specs.declared.Entry.{Entry}
 use Rattle.model.specs.Entries.{entry_id}
+use Rattle.history.specs.declared.EntryKind.{EntryKind}
+use Rattle.history.specs.Entries.{is_of, last_place, stays, kept}
+use Rattle.history.proofs.LastPlaces.{Found, found_from_end}
 use Rattle.entry_log.specs.declared.LogRecord.{LogRecord}
 use Rattle.entry_log.specs.declared.LogRecord.TheVariants.{Noted, Purged}
-use Rattle.entry_log.specs.Logs.{taken, live}
-use Rattle.entry_log.proofs.Marks.{live_first, live_taken}
+use Rattle.entry_log.specs.declared.records.LatestFirst.{LatestFirst}
+use Rattle.entry_log.specs.Backwards.{latest}
+use Rattle.entry_log.specs.Logs.{live}
+use Rattle.entry_log.proofs.Marks.{live_noted, live_purged}
 
--- the set of the nodes that these records purge
-abbrev pub Gone : IdSet → List LogRecord → Type 0
-Gone gone rs = (id : ℕ) → has gone id ≡ taken id rs
+-- a purge of no node
+pub kept_all : (gone : IdSet) → ((id : ℕ) → has gone id ≡ false) → (es : List Entry) → kept gone es ≡ es
+kept_all gone none [] = refl
+kept_all gone none (e ∷ es) = ap (λ b. cond (not b) (e ∷ kept gone es) (kept gone es)) (none (entry_id e)) ∙ ap (λ l. e ∷ l) (kept_all gone none es)
 
-or_comm : (a b : Bool) → (a || b) ≡ (b || a)
-or_comm true true = refl
-or_comm true false = refl
-or_comm false true = refl
-or_comm false false = refl
-
--- a search that begins behind the last record; P is what it knows of the entries that it has seen
-pub at_end : (P : List Entry → Type 0) (rs : List LogRecord) (gone : IdSet) → ((id : ℕ) → has gone id ≡ false) → P []
-    → Gone gone (drop (length rs) rs) × P (live (drop (length rs) rs))
-at_end P rs gone none p = subst (λ qs. Gone gone qs × P (live qs)) (sym (drop_all (length rs) rs (omega arith))) (none, p)
-
--- the record before place i
-module _ (rs : List LogRecord) (i : ℕ) (d : LogRecord) (more : 0 < i) (within : i ≤ length rs) where
-  one_back : drop (i - 1) rs ≡ get_or rs (i - 1) d ∷ drop i rs
-  one_back =
-      let lt : i - 1 < length rs = omega arith in
-      let s : i - 1 + 1 ≡ i = omega arith in
-      drop_more rs (i - 1) d lt ∙ ap (λ k. get_or rs (i - 1) d ∷ drop k rs) s
-
-  module _ (P : List Entry → Type 0) (gone : IdSet) (known : Gone gone (drop i rs)) where
-    abbrev Seen : IdSet → List LogRecord → Type 0
-    Seen g qs = Gone g qs × P (live qs)
-
-    at_record : (g : IdSet) (r : LogRecord) → get_or rs (i - 1) d ≡ r → Seen g (r ∷ drop i rs) → Seen g (drop (i - 1) rs)
-    at_record g r is h = subst (Seen g) (sym (one_back ∙ ap (λ x. x ∷ drop i rs) is)) h
-
-    -- a mark
-    pub back_purged : (ids all : IdSet) → ((id : ℕ) → has all id ≡ (has gone id || has ids id)) → get_or rs (i - 1) d ≡ Purged ids → P (live (drop i rs)) → Seen all (drop (i - 1) rs)
-    back_purged ids all union is p =
-        at_record all (Purged ids) is
-        (λ id. union id ∙ or_comm (has gone id) (has ids id) ∙ ap (λ b. has ids id || b) (known id), p)
-
-    -- an entry, whose node is id
-    module _ (e : Entry) (id : ℕ) (of : id ≡ entry_id e) (is : get_or rs (i - 1) d ≡ Noted e) where
-      told : (b : Bool) → b ≡ has gone id → taken (entry_id e) (drop i rs) ≡ b
-      told b h = sym (h ∙ ap (has gone) of ∙ known (entry_id e))
-
-      pub back_taken : true ≡ has gone id → P (live (drop i rs)) → Seen gone (drop (i - 1) rs)
-      back_taken h p = at_record gone (Noted e) is (known, subst P (sym (live_taken e (drop i rs) (told true h))) p)
-
-      pub back_noted : false ≡ has gone id → P (e ∷ live (drop i rs)) → Seen gone (drop (i - 1) rs)
-      back_noted h p = at_record gone (Noted e) is (known, subst P (sym (live_first e (drop i rs) (told false h))) p)
-
--- the live entries end with those of the last records
-suffix : (rs : List LogRecord) (j : ℕ) → (front : List Entry) × (live rs ≡ front ++ live (drop j rs))
-suffix rs zero = ([], refl)
-suffix [] (suc j) = ([], refl)
-suffix (Purged ids ∷ rs) (suc j) = suffix rs j
-suffix (Noted e ∷ rs) (suc j) = go (taken (entry_id e) rs) (suffix rs j)
+-- two purges
+pub kept_twice : (a b all : IdSet) → ((id : ℕ) → has all id ≡ (has a id || has b id)) → (es : List Entry) → kept all es ≡ kept a (kept b es)
+kept_twice a b all union [] = refl
+kept_twice a b all union (e ∷ es) = go (has a (entry_id e)) refl (has b (entry_id e)) refl (kept_twice a b all union es)
   where
-    go : (b : Bool) → (front : List Entry) × (live rs ≡ front ++ live (drop j rs)) → (front : List Entry) × (cond b (live rs) (e ∷ live rs) ≡ front ++ live (drop j rs))
-    go true h = h
-    go false h = (e ∷ h.0, ap (λ l. e ∷ l) h.1)
+    go : (x : Bool) → has a (entry_id e) ≡ x → (y : Bool) → has b (entry_id e) ≡ y → kept all es ≡ kept a (kept b es) → kept all (e ∷ es) ≡ kept a (kept b (e ∷ es))
+    go true p true q h = grind (arith, union (entry_id e), p, q, h)
+    go true p false q h = grind (arith, union (entry_id e), p, q, h)
+    go false p true q h = grind (arith, union (entry_id e), p, q, h)
+    go false p false q h = grind (arith, union (entry_id e), p, q, h)
 
--- e stands before es in a list, as the last of its first n entries
-pub record Before (all : List Entry) (e : Entry) (es : List Entry) (n : ℕ) : Type 0 where
-  pub front : List Entry
-  pub split : all ≡ front ++ e ∷ es
-  pub place : n ≡ length front + 1
+-- what is still to come of these records, the last first
+abbrev still : IdSet → List LogRecord → List Entry
+still gone rs = reverse (kept gone (live rs))
 
--- so does an entry that is not taken, before the live entries of the records behind it
-pub found : (rs : List LogRecord) (i : ℕ) (d : LogRecord) → 0 < i → i ≤ length rs → (gone : IdSet) → Gone gone (drop i rs)
-    → (e : Entry) (id : ℕ) → id ≡ entry_id e → get_or rs (i - 1) d ≡ Noted e → false ≡ has gone id
-    → (n : ℕ) → n + length (live (drop i rs)) ≡ length (live rs) → Before (live rs) e (live (drop i rs)) n
-found rs i d more within gone known e id of is stays n count =
-    let s = suffix rs (i - 1) in
-    let untaken : taken (entry_id e) (drop i rs) ≡ false = sym (stays ∙ ap (has gone) of ∙ known (entry_id e)) in
-    let q : live rs ≡ s.0 ++ e ∷ live (drop i rs) =
-    s.1
-    ∙ ap (λ qs. s.0 ++ live qs) (one_back rs i d more within ∙ ap (λ x. x ∷ drop i rs) is)
-    ∙ ap (λ l. s.0 ++ l) (live_first e (drop i rs) untaken) in
-    record { front = s.0; split = q; place = omega (arith, count, ap length q, length-append s.0 (e ∷ live (drop i rs))) }
+-- and of those before the last
+module _ (gone : IdSet) (rs before : List LogRecord) (r : LogRecord) (is : rs ≡ before ++ r ∷ []) where
+  -- a mark
+  pub back_purged : (ids all : IdSet) → ((id : ℕ) → has all id ≡ (has gone id || has ids id)) → r ≡ Purged ids → still all before ≡ still gone rs
+  back_purged ids all union mark =
+      ap reverse
+      (kept_twice gone ids all union (live before) ∙ ap (kept gone) (sym (ap live (is ∙ ap (λ r. before ++ r ∷ []) mark) ∙ live_purged before ids)))
 
-pub nth_behind : (front : List Entry) (e : Entry) (es : List Entry) → slice_get (front ++ e ∷ es) (length front) ≡ Some e
-nth_behind [] e es = refl
-nth_behind (x ∷ front) e es = nth_behind front e es
+  -- an entry, which the marks behind take or leave
+  module _ (e : Entry) (id : ℕ) (of : id ≡ entry_id e) (noted : r ≡ Noted e) where
+    parted : kept gone (live rs) ≡ kept gone (live before) ++ cond (not (has gone id)) (e ∷ []) []
+    parted =
+        ap (kept gone) (ap live (is ∙ ap (λ r. before ++ r ∷ []) noted) ∙ live_noted before e)
+        ∙ filter-append (stays gone) (live before) (e ∷ [])
+        ∙ ap (λ i. kept gone (live before) ++ cond (not (has gone i)) (e ∷ []) []) (sym of)
+
+    pub back_taken : true ≡ has gone id → still gone before ≡ still gone rs
+    back_taken h = ap reverse (sym (parted ∙ ap (λ b. kept gone (live before) ++ cond (not b) (e ∷ []) []) (sym h) ∙ append-nil (kept gone (live before))))
+
+    pub back_noted : false ≡ has gone id → still gone rs ≡ e ∷ still gone before
+    back_noted h =
+        ap reverse (parted ∙ ap (λ b. kept gone (live before) ++ cond (not b) (e ∷ []) []) (sym h)) ∙ reverse-append (kept gone (live before)) (e ∷ [])
+
+-- the places of a list, from its last item back
+pub nth_reversed : (es : List Entry) (p n : ℕ) → p + n + 1 ≡ length es → slice_get (reverse es) n ≡ slice_get es p
+nth_reversed [] p n h = absurd (omega arith)
+nth_reversed (e ∷ es) p n h =
+    let all = e ∷ es in
+    let long = length-reverse all in
+    slice_get-get_or (reverse all) n e (omega (arith, h, long))
+    ∙ ap Some (get_or-reverse all n e (omega (arith, h)) ∙ (let at : length all - 1 - n ≡ p = omega (arith, h) in ap (λ k. get_or all k e) at))
+    ∙ sym (slice_get-get_or all p e (omega (arith, h)))
+
+-- where the last entry of a kind and a node stands, by how many are behind it
+module _ (kind : EntryKind) (id : ℕ) {F : Type 0} (g : Mut F (Entry × Unit {0}) Bool) (f : F)
+    (says : (x : Entry) (b : Bool) (q : F) → Called g f (x, tt) b q → (q ≡ f) × (b ≡ is_of kind id x)) where
+  -- what that says of its place in a list
+  abbrev pub Counted : List Entry → Option ℕ → Type 0
+  Counted es o = MatchOption o (last_place kind id es ≡ None) (λ n. last_place kind id es ≡ Some (length es - 1 - n))
+
+  pub last_counted : (s u : LatestFirst) (es : List Entry) (r o : Option ℕ) → latest s ≡ reverse es → FindsPosition (YieldsFirst latest) g s f r u → r ≡ o
+      → Counted es o
+  last_counted s u es r o is ran told =
+      subst (Counted es) told
+      (go ran.0 ran.1 ran.2
+      (found_from_end kind id (YieldsFirst latest) (λ e. e) (λ s. reverse (latest s)) (λ s t e. ap reverse e.0) (λ s t x e. ap reverse e ∙ reverse-append (x ∷ []) (latest t)) g f says ran.0 ran.1 ran.2 s u ran.3 ran.4)
+      ran.5)
+    where
+      same : reverse (latest s) ≡ es
+      same = ap reverse is ∙ reverse-reverse es
+
+      go : (xs : List Entry) (x : Option Entry) (j : F)
+          → Found kind id (YieldsFirst latest) (λ e. e) (λ s. reverse (latest s)) (λ s t e. ap reverse e.0) (λ s t x e. ap reverse e ∙ reverse-append (x ∷ []) (latest t)) g f says s xs x j
+          → MatchOption x (r ≡ None) (λ x. (r ≡ Some (length xs)) × ((h : F) × Called g j (x, tt) true h)) → Counted es r
+      go xs None j none e = subst (Counted es) (sym e) (ap (last_place kind id) (sym same) ∙ none)
+      go xs (Some x) j found e =
+          let n = found e.1.0 e.1.1 in
+          let at : n.0 ≡ length es - 1 - length xs = omega (arith, n.2, ap length same) in
+          subst (Counted es) (sym e.0) (ap (last_place kind id) (sym same) ∙ n.1 ∙ ap Some at)

@@ -1,13 +1,11 @@
 -- What a log holds after a purge that takes one place for its mark. Assumes nothing.
-use Rattle.std.proofs.Common.{◌≡◌, ℕ, ◌+◌, ◌-◌, ◌≤◌, Bool, true, false, cond, eqb, ltb, List, length, Ok, Result, sym, refl, ap, ◌∙◌, arith}
+use Rattle.std.proofs.Common.{◌≡◌, ℕ, ◌+◌, ◌-◌, ◌≤◌, Bool, true, false, cond, eqb, ltb, List, length, sym, refl, ◌∙◌, arith}
 use Rattle.std.proofs.lemmas.Bool.{eqb-true, eqb-false, lt-ltb, le-ltb, cond-true}
 use Rattle.ids.specs.declared.IdSet.{IdSet}
 use Rattle.model.specs.declared.Entry.{Entry}
-use Rattle.history.specs.declared.Full.{Full}
 use Rattle.history.specs.Entries.{kept}
-use Rattle.history.specs.Stores.{StoreView, refusal, purge_answer, purged, PurgeBounds}
-use Rattle.history.proofs.Views.{kept_short, view_of, view_is, purged_is, not_refused}
-use Rattle.places.specs.AppendLists.{push_answer}
+use Rattle.history.specs.Stores.{StoreView, purged, PurgeBounds}
+use Rattle.history.proofs.Views.{kept_short, view_of, view_is, purged_is}
 
 none_free : (n : ℕ) → ltb n 1 ≡ eqb n 0
 none_free n = go (eqb n 0) refl
@@ -15,9 +13,6 @@ none_free n = go (eqb n 0) refl
     go : (b : Bool) → eqb n 0 ≡ b → ltb n 1 ≡ b
     go true e = let z = eqb-true n 0 e in lt-ltb n 1 (omega arith)
     go false e = let some = eqb-false n 0 e in le-ltb n 1 (omega arith)
-
-pub mark_answer : (v : StoreView) → push_answer v.free ≡ purge_answer 1 v
-mark_answer v = ap (λ b. cond b refusal (Ok tt)) (sym (none_free v.free))
 
 module _ (ids : IdSet) (v : StoreView) (es : List Entry) (f n : ℕ)
     (list : es ≡ cond (eqb v.free 0) v.list (kept ids v.list)) (free : f ≡ v.free - 1) (capacity : n ≡ v.capacity) where
@@ -38,10 +33,3 @@ module _ (ids : IdSet) (v : StoreView) (es : List Entry) (f n : ℕ)
         within = λ h. omega arith;
         refused = λ h. omega arith;
       }
-
-  pub mark_cost : (r : Result (Unit {0}) Full) → r ≡ push_answer v.free → r ≡ Ok tt → f + 1 ≡ v.free
-  mark_cost r answer ok = go (eqb v.free 0) refl (sym ok ∙ answer)
-    where
-      go : (b : Bool) → eqb v.free 0 ≡ b → Ok tt ≡ cond b refusal (Ok tt) → f + 1 ≡ v.free
-      go true e a = not_refused a
-      go false e a = let some = eqb-false v.free 0 e in omega arith

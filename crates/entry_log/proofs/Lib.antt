@@ -1,3 +1,3 @@
-mod Marks
-mod Costs
 mod Backwards
+mod Costs
+mod Marks

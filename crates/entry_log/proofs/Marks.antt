@@ -22,7 +22,7 @@ taken_noted id [] e = refl
 taken_noted id (Noted x ∷ rs) e = taken_noted id rs e
 taken_noted id (Purged ids ∷ rs) e = ap (λ b. has ids id || b) (taken_noted id rs e)
 
-live_noted : (rs : List LogRecord) (e : Entry) → live (rs ++ Noted e ∷ []) ≡ live rs ++ e ∷ []
+pub live_noted : (rs : List LogRecord) (e : Entry) → live (rs ++ Noted e ∷ []) ≡ live rs ++ e ∷ []
 live_noted [] e = refl
 live_noted (Purged ids ∷ rs) e = live_noted rs e
 live_noted (Noted x ∷ rs) e = go (taken (entry_id x) rs) (taken_noted (entry_id x) rs e) (live_noted rs e)
@@ -50,7 +50,7 @@ taken_purged id [] ids = refl
 taken_purged id (Noted x ∷ rs) ids = taken_purged id rs ids
 taken_purged id (Purged m ∷ rs) ids = ap (λ b. has m id || b) (taken_purged id rs ids) ∙ or_swap (has m id) (has ids id) (taken id rs)
 
-live_purged : (rs : List LogRecord) (ids : IdSet) → live (rs ++ Purged ids ∷ []) ≡ kept ids (live rs)
+pub live_purged : (rs : List LogRecord) (ids : IdSet) → live (rs ++ Purged ids ∷ []) ≡ kept ids (live rs)
 live_purged [] ids = refl
 live_purged (Purged m ∷ rs) ids = live_purged rs ids
 live_purged (Noted x ∷ rs) ids = go (has ids (entry_id x)) refl (taken (entry_id x) rs) (taken_purged (entry_id x) rs ids) (live_purged rs ids)

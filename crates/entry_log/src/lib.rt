@@ -1,18 +1,18 @@
 // A history in a log: nothing is taken out, and a purge is one more record.
 #![tactic(auto)]
 
-ghost use Rattle.std.specs.Prelude.{◌≡◌, ◌+◌, length, Ok};
-ghost use Rattle.std.proofs.Common.{lit≤};
+ghost use Rattle.std.specs.Prelude.{◌≡◌, ◌+◌, ◌^◌, ◌<◌, length, reverse, Ok};
 ghost use Rattle.history.specs.Stores.{fresh, refusal, purge_answer, purged, PurgeBounds};
+ghost use Rattle.entry_log.specs.Backwards.{latest};
 ghost use Rattle.entry_log.specs.Logs.{log_view, log_within};
 
 mod records;
 
-use history::{EntryKind, Full, Store};
+use history::{EntryKind, Full, OnePlace, Store, is_of};
 use ids::IdSet;
 use model::Entry;
 use places::AppendList;
-use records::{live_count, live_entry, live_place};
+use records::LatestFirst;
 
 // One place of a log.
 #[derive(Clone, Copy)]
@@ -37,15 +37,22 @@ impl<'a> Log<'a> {
             records: AppendList::over(row),
         }
     }
+
+    fn latest_first(&self) -> LatestFirst<'_>
+        ensures items { latest result ≡ reverse (log_view self.now).list }
+        ensures few { length (latest result) < 2 ^ 64 }
+    {
+        LatestFirst::of(self.records.items())
+    }
 }
 
 // A purge needs a place for its mark, and an accepted one takes just that place.
-impl<'a> Store<1> for Log<'a> {
+impl Store for Log<'_> {
+    type Cost = OnePlace;
+
     ghost view = { log_view };
 
     ghost within = { log_within };
-
-    ghost low_cost = { lit≤ tt };
 
     fn clear(&mut self) {
         self.records.clear();
@@ -66,14 +73,19 @@ impl<'a> Store<1> for Log<'a> {
     }
 
     fn place(&self, kind: EntryKind, id: u8) -> Option<usize> {
-        live_place(self.records.items(), kind, id)
+        let behind = self
+            .latest_first()
+            .position(|entry| is_of(entry, kind, id))?;
+        Some(self.len() - 1 - behind)
     }
 
     fn len(&self) -> usize {
-        live_count(self.records.items())
+        self.latest_first().count()
     }
 
     fn entry(&self, place: usize) -> Option<Entry> {
-        live_entry(self.records.items(), place)
+        // how many entries stand behind this place, in two steps since `place + 1` need not fit
+        let behind = self.len().checked_sub(place)?.checked_sub(1)?;
+        self.latest_first().nth(behind)
     }
 }

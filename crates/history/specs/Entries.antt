@@ -1,4 +1,5 @@
 -- The entries of a history: which of them is meant, which a purge keeps, where one last stands. Assumes nothing.
+--   kind_of e                what e says, apart from its node
 --   is_of kind id e          e is of this kind and of this node
 --   kept ids es              the entries of es whose node is not among ids, in their order
 --   last_place kind id es    the last place in es of an entry of this kind and node, if one stands there
@@ -7,6 +8,7 @@ use Rattle.std.specs.Prelude.{ℕ, suc, Bool, false, cond, not, ◌&&◌, List, 
 use Rattle.ids.specs.declared.IdSet.{IdSet}
 use Rattle.ids.specs.Sets.{has}
 use Rattle.model.specs.declared.Entry.{Entry}
+use Rattle.model.specs.declared.Entry.TheVariants as entry
 use Rattle.model.specs.Entries.{entry_id, entry_kind}
 use Rattle.history.specs.declared.EntryKind.{EntryKind}
 use Rattle.history.specs.declared.EntryKind.TheVariants.{Start, End, Choose, Leave}
@@ -17,6 +19,13 @@ kind_byte Start = 1
 kind_byte End = 2
 kind_byte Choose = 3
 kind_byte Leave = 4
+
+-- What an entry says.
+abbrev pub kind_of : Entry → EntryKind
+kind_of (entry.Start i) = Start
+kind_of (entry.End i) = End
+kind_of (entry.Choose i b) = Choose
+kind_of (entry.Leave i) = Leave
 
 abbrev pub is_of : EntryKind → ℕ → Entry → Bool
 is_of kind id e = entry_kind e == kind_byte kind && entry_id e == id

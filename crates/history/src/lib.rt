@@ -1,16 +1,18 @@
 // What a case's history is, and what keeps it.
 #![tactic(auto)]
 
-ghost use Rattle.std.specs.Prelude.{◌≡◌, ◌+◌, ◌≤◌, length};
+ghost use Rattle.std.specs.Prelude.{◌≡◌, ℕ, ◌+◌, ◌≤◌, length};
+ghost use Rattle.std.proofs.Common.{lit≤};
 ghost use Rattle.std.specs.List.{slice_get};
-ghost use Rattle.history.specs.Entries.{is_of, last_place, before};
+ghost use Rattle.history.specs.Entries.{kind_of, is_of, last_place, before};
 ghost use Rattle.history.specs.Stores.{StoreView, refusal, cleared, add_answer, added, purge_answer, purged, PurgeBounds};
 
+pub use bounded::methods::Full;
 use ids::IdSet;
 use model::Entry;
 
 // What an entry says, apart from its node.
-#[derive(Clone, Copy)]
+#[derive(Clone, Copy, PartialEq, Eq, Debug)]
 pub enum EntryKind {
     Start,
     End,
@@ -18,19 +20,61 @@ pub enum EntryKind {
     Leave,
 }
 
-// A store has too few free places.
-#[derive(Clone, Copy)]
-pub struct Full;
+impl From<Entry> for EntryKind {
+    ghost from_gives = { λ entry kind. kind ≡ kind_of entry };
 
-// A list of entries that grows in a fixed number of places. A purge takes the entries of some nodes out and
-// costs PURGE_COST places; what they held may come free.
-pub trait Store<const PURGE_COST: usize> {
+    fn from(entry: Entry) -> EntryKind {
+        match entry {
+            Entry::Start(_) => EntryKind::Start,
+            Entry::End(_) => EntryKind::End,
+            Entry::Choose(..) => EntryKind::Choose,
+            Entry::Leave(_) => EntryKind::Leave,
+        }
+    }
+}
+
+// How many places a purge costs. It stands in a trait of its own, since a kind of store that borrows its places
+// can't give a constant that clauses cite.
+pub trait PurgeCost {
+    const PLACES: usize;
+
+    ghost PLACES: { ℕ };
+
+    ghost low: { PLACES ≤ 1 };
+}
+
+// A purge costs no place. The two are types of their own: of a const parameter only 0 and 1 keep `low`, so it would need
+// both impls too.
+pub struct NoPlace;
+
+impl PurgeCost for NoPlace {
+    const PLACES: usize = 0;
+
+    ghost PLACES = { 0 };
+
+    ghost low = { lit≤ tt };
+}
+
+// A purge costs one place.
+pub struct OnePlace;
+
+impl PurgeCost for OnePlace {
+    const PLACES: usize = 1;
+
+    ghost PLACES = { 1 };
+
+    ghost low = { lit≤ tt };
+}
+
+// A list of entries that grows in a fixed number of places. A purge takes the entries of some nodes out at its
+// cost; the places that they held may come free.
+pub trait Store {
+    type Cost: PurgeCost;
+
     // what the store means
     ghost view: { Self → StoreView };
 
     ghost within: { (s : Self) → (view s).free + length (view s).list ≤ (view s).capacity };
-
-    ghost low_cost: { PURGE_COST ≤ 1 };
 
     fn clear(&mut self)
         ensures after { view self.new ≡ cleared (view self.old) };
@@ -43,9 +87,9 @@ pub trait Store<const PURGE_COST: usize> {
 
     // Takes the entries of these nodes out of the list.
     fn purge(&mut self, ids: IdSet) -> Result<(), Full>
-        ensures answer { result ≡ purge_answer PURGE_COST (view self.old) }
-        ensures after { view self.new ≡ purged PURGE_COST ids (view self.new).free (view self.old) }
-        ensures bounds { PurgeBounds PURGE_COST ids (view self.new).free (view self.old) }
+        ensures answer { result ≡ purge_answer Self.Cost.PLACES (view self.old) }
+        ensures after { view self.new ≡ purged Self.Cost.PLACES ids (view self.new).free (view self.old) }
+        ensures bounds { PurgeBounds Self.Cost.PLACES ids (view self.new).free (view self.old) }
         ensures unchanged { result ≡ refusal → self.new ≡ self.old };
 
     // The last place of an entry of a kind and a node.
@@ -63,28 +107,16 @@ pub trait Store<const PURGE_COST: usize> {
 pub fn is_of(entry: Entry, kind: EntryKind, id: u8) -> bool
     ensures { result ≡ is_of kind id entry }
 {
-    match (entry, kind) {
-        (Entry::Start(of), EntryKind::Start)
-        | (Entry::End(of), EntryKind::End)
-        | (Entry::Choose(of, _), EntryKind::Choose)
-        | (Entry::Leave(of), EntryKind::Leave) => of == id,
-        _ => false,
-    }
+    EntryKind::from(entry) == kind && entry.id() == id
 }
 
 // Whether the last entry of one kind and node stands before the last of another.
-pub fn comes_before<const PURGE_COST: usize, S: Store<PURGE_COST>>(
-    store: &S,
-    earlier: (EntryKind, u8),
-    later: (EntryKind, u8),
-) -> bool
+pub fn comes_before<S: Store>(store: &S, earlier: (EntryKind, u8), later: (EntryKind, u8)) -> bool
     ensures { result ≡ before (last_place earlier.0 earlier.1 (S.view store.now).list) (last_place later.0 later.1 (S.view store.now).list) }
 {
-    match store.place(earlier.0, earlier.1) {
-        Some(first) => match store.place(later.0, later.1) {
-            Some(second) => first < second,
-            None => false,
-        },
-        None => false,
-    }
+    let first = store.place(earlier.0, earlier.1);
+    let second = store.place(later.0, later.1);
+    first
+        .zip(second)
+        .is_some_and(|(first, second)| first < second)
 }

@@ -4,6 +4,7 @@ ghost use Rattle.history.specs.Entries.{kept};
 ghost use Rattle.places.specs.AppendLists.{held, left, size};
 
 use crate::AppendList;
+use bounded::retain;
 use ids::IdSet;
 use model::Entry;
 
@@ -13,16 +14,7 @@ pub fn compact(entries: &mut [Entry], ids: IdSet) -> usize
     ensures front { take result entries.new ≡ kept ids entries.old }
     ensures rest { drop result entries.new ≡ drop result entries.old }
 {
-    let mut to = 0;
-    for at in 0..entries.len() {
-        let entry = entries[at];
-        let stays = !ids.has(entry.id());
-        if stays {
-            entries[to] = entry;
-            to += 1;
-        }
-    }
-    to
+    retain(entries, |entry| !ids.has(entry.id()))
 }
 
 impl AppendList<'_, Entry> {

@@ -11,12 +11,15 @@ pub use compaction::compact;
 use history::Full;
 
 // The first `used` places of a row, or all of them if it has fewer. What the others hold means nothing.
+// The row and its count stand side by side since the list grows in places that its owner lends, and takes no memory.
+// No invariant holds `used` within the row: a struct that has one and holds a `&mut` can't be held by value in another.
 #[derive(Drop)]
 pub struct AppendList<'a, T: Copy> {
     row: &'a mut [T],
     used: usize,
 }
 
+// Each call that changes the list says that its places stay as many (`places`): a caller sees no more of a call than it says.
 impl<'a, T: Copy> AppendList<'a, T> {
     // An empty list in these places.
     pub fn over(row: &'a mut [T]) -> AppendList<'a, T>
@@ -35,6 +38,7 @@ impl<'a, T: Copy> AppendList<'a, T> {
         ensures places { size self.new ≡ size self.old }
         ensures unchanged { result ≡ refusal → self.new ≡ self.old }
     {
+        // tried with `get_mut`: after it a proof knows nothing of what the row holds
         if self.used < self.row.len() {
             self.row[self.used] = item;
             self.used += 1;
@@ -58,29 +62,20 @@ impl<'a, T: Copy> AppendList<'a, T> {
         ensures room { left self.new ≡ size self.old - length (take n (held self.old)) }
         ensures places { size self.new ≡ size self.old }
     {
-        if n < self.used {
-            self.used = n;
-        }
+        self.used = self.used.min(n);
     }
 
     // How many places are used, and how many are left.
     pub fn usage(&self) -> (usize, usize)
         ensures { result ≡ usage self.now }
     {
-        let used = self.used.min(self.row.len());
+        let used = self.items().len();
         (used, self.row.len() - used)
     }
 
     pub fn items(&self) -> &[T]
         ensures { result.now ≡ held self.now }
     {
-        front(&*self.row, self.used)
+        &self.row[..self.used.min(self.row.len())]
     }
-}
-
-// The first `n` of a row, or all of it if it has fewer.
-fn front<T: Copy>(row: &[T], n: usize) -> &[T]
-    ensures { result.now ≡ take n row.now }
-{
-    if n < row.len() { &row[..n] } else { row }
 }

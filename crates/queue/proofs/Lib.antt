@@ -1,3 +1,4 @@
 pub mod InStep
 pub mod Listed
 pub mod Once
+pub mod Withdrawn

@@ -9,14 +9,11 @@ use table::CompactedTable;
 const BLANK: Entry = Entry::Leave(0);
 
 fn shows(entry: Option<Entry>, kind: EntryKind, id: u8) -> bool {
-    match entry {
-        Some(entry) => is_of(entry, kind, id),
-        None => false,
-    }
+    entry.is_some_and(|entry| is_of(entry, kind, id))
 }
 
 // 1 is started, 2 is started and 1 ends
-fn begins<const PURGE_COST: usize, S: Store<PURGE_COST>>(rt: &impl Abort, store: &mut S) {
+fn begins<S: Store>(rt: &impl Abort, store: &mut S) {
     assert!(rt; store.add(Entry::Start(1)).is_ok());
     assert!(rt; store.add(Entry::Start(2)).is_ok());
     assert!(rt; store.add(Entry::End(1)).is_ok());
@@ -25,7 +22,7 @@ fn begins<const PURGE_COST: usize, S: Store<PURGE_COST>>(rt: &impl Abort, store:
 }
 
 // 1 is purged and started anew
-fn starts_anew<const PURGE_COST: usize, S: Store<PURGE_COST>>(rt: &impl Abort, store: &mut S) {
+fn starts_anew<S: Store>(rt: &impl Abort, store: &mut S) {
     assert!(rt; store.purge(IdSet::only(1)).is_ok());
     assert!(rt; store.place(EntryKind::End, 1).is_none());
     assert!(rt; store.add(Entry::Start(1)).is_ok());
@@ -35,7 +32,7 @@ fn starts_anew<const PURGE_COST: usize, S: Store<PURGE_COST>>(rt: &impl Abort, s
 }
 
 // it stands behind 2, and nothing else stands there
-fn ends_with_1<const PURGE_COST: usize, S: Store<PURGE_COST>>(rt: &impl Abort, store: &S) {
+fn ends_with_1<S: Store>(rt: &impl Abort, store: &S) {
     assert!(rt; store.len() == 2);
     assert!(rt; shows(store.entry(1), EntryKind::Start, 1));
     assert!(rt; store.entry(2).is_none());
@@ -114,7 +111,7 @@ fn a_full_log_refuses_every_purge(rt: HostRuntime) {
 }
 
 // two entries and no more
-fn fills<const PURGE_COST: usize, S: Store<PURGE_COST>>(rt: &impl Abort, store: &mut S, id: u8) {
+fn fills<S: Store>(rt: &impl Abort, store: &mut S, id: u8) {
     assert!(rt; store.add(Entry::Start(id)).is_ok());
     assert!(rt; store.add(Entry::End(id)).is_ok());
     assert!(rt; store.add(Entry::Start(id)).is_err());

@@ -1,6 +1,7 @@
 -- What a compacted table holds. Assumes nothing.
 --   table_view t    the entries in its places, without gaps
 --   Tight v         each place is free or holds an entry
+--   ATableIsTight   so in every table
 use Rattle.std.specs.Prelude.{◌≡◌, ◌+◌, ◌-◌, ◌≤◌, length}
 use Rattle.std.proofs.Common.{arith}
 use Rattle.history.specs.Stores.{StoreView}
@@ -17,6 +18,9 @@ Tight v = v.free ≡ v.capacity - length v.list
 pub table_within : (t : CompactedTable) → (table_view t).free + length (table_view t).list ≤ (table_view t).capacity
 table_within t = omega (arith, each_place t.entries)
 
--- It is always tight.
-pub table_tight : (t : CompactedTable) → Tight (table_view t)
+-- Its free places are always its capacity without its length.
+abbrev pub ATableIsTight : Type 0
+ATableIsTight = (t : CompactedTable) → Tight (table_view t)
+
+pub table_tight : ATableIsTight
 table_tight t = omega (arith, each_place t.entries)

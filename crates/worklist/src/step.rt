@@ -12,22 +12,22 @@ pub fn bring_in_step<W: Worklist>(worklist: &mut W, wanted: IdSet)
     ensures after { W.offered worklist.new ≡ has wanted }
     ensures difference { ByDifference W.offered W.offering W.withdrawing (has wanted) 64 worklist.old worklist.new }
 {
+    // over all ids: a worklist has no items to go over
     for id in 0..64 {
         bring_id_in_step(worklist, wanted, id);
     }
 }
 
 // The same for one id.
+#[tactic(auto, using(crate::specs::Differences::left_alone, crate::specs::Differences::by_offer, crate::specs::Differences::by_withdrawal))]
 fn bring_id_in_step<W: Worklist>(worklist: &mut W, wanted: IdSet, id: u8)
     requires { id < 64 }
     ensures after { W.offered worklist.new ≡ in_step_at id (has wanted) (W.offered worklist.old) }
     ensures difference { Brought W.offered W.offering W.withdrawing (has wanted) id worklist.old worklist.new }
 {
-    if wanted.has(id) {
-        if !worklist.has(id) {
-            worklist.offer(id);
-        }
-    } else if worklist.has(id) {
-        worklist.withdraw(id);
+    match (wanted.has(id), worklist.has(id)) {
+        (true, false) => worklist.offer(id),
+        (false, true) => worklist.withdraw(id),
+        _ => {}
     }
 }
