@@ -1,2 +1,2 @@
+pub mod Living
 pub mod Repeating
-pub mod Loading

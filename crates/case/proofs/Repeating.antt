@@ -9,7 +9,7 @@ use Rattle.model.specs.declared.Fact.{Fact}
 use Rattle.model.specs.Entries.{entry_id}
 use Rattle.facts.specs.Facts.{reset}
 use Rattle.runs.specs.Steps.{step_in}
-use Rattle.history.specs.declared.Full.{Full}
+use Rattle.bounded.specs.declared.methods.Full.{Full}
 use Rattle.history.specs.Entries.{kept}
 use Rattle.history.specs.Stores.{StoreView, refusal, purge_answer, purged, PurgeBounds}
 use Rattle.rounds.specs.Rounds.{in_round, outside}

@@ -1,20 +1,24 @@
 -- The view of a case over any store and worklist: what those mean is handed in. Assumes nothing.
 --   view_of store offered c   what case c is seen to hold
 --   emptied n v               the view of a case that begins anew and offers nothing yet
-use Rattle.std.specs.Prelude.{ℕ, Bool}
+--   refreshed v               the view of a case whose worklist was brought in step
+--   Continues cost next v w   each life up to v goes on to w, and next says what its history then is
+use Rattle.std.specs.Prelude.{ℕ, Bool, List}
+use Rattle.model.specs.declared.Entry.{Entry}
 use Rattle.facts.specs.Facts.{facts_by_id}
-use Rattle.schema.specs.Schemas.{parts}
 use Rattle.agreement.specs.Laws.{no_facts}
 use Rattle.history.specs.Stores.{StoreView, cleared}
 use Rattle.worklist.specs.Offers.{none_offered}
-use Rattle.lives.specs.Views.{CaseView}
+use Rattle.entering.specs.Courses.{schema_of}
+use Rattle.lives.specs.Views.{CaseView, in_progress}
+use Rattle.lives.specs.Lives.{Life}
 use Rattle.case.specs.declared.case.Case.{Case}
 
-abbrev pub view_of : {c : ℕ} {S W : Type 0} → (S → StoreView) → (W → ℕ → Bool) → Case c S W → CaseView
+abbrev pub view_of : {S W C : Type 0} → (S → StoreView) → (W → ℕ → Bool) → Case S W C → CaseView
 view_of store offered c = record {
   number = c.number;
-  progress = record { schema = parts c.schema.now; facts = facts_by_id c.facts };
-  store = store c.store;
+  progress = record { schema = schema_of c.course; facts = facts_by_id c.course.facts };
+  store = store c.course.store;
   offered = offered c.worklist;
 }
 
@@ -25,3 +29,9 @@ emptied n v = record {
   store = cleared v.store;
   offered = none_offered;
 }
+
+abbrev pub refreshed : CaseView → CaseView
+refreshed v = in_progress v.number v.progress.schema v.progress.facts v.store
+
+abbrev pub Continues : ℕ → (CaseView → List Entry → List Entry) → CaseView → CaseView → Type 0
+Continues cost next v w = (H : List Entry) → Life cost H v → Life cost (next v H) w

@@ -1,19 +1,17 @@
 // A case of a schema, over any store and any worklist.
-use facts::Facts;
+use entering::course::Course;
 use history::Store;
-use schema::schema::Schema;
 use worklist::Worklist;
 
 pub mod openings;
 pub mod questions;
 pub mod steps;
 
-// It refers to its schema, and holds what has happened to the nodes, its history and what it offers.
+// Its course, what it offers, and its number. Tried with an `impl Model` that gives its view: a model's value holds no
+// function, and what is offered is one.
 #[derive(Drop)]
-pub struct Case<'s, const COST: usize, S: Store<COST>, W: Worklist> {
-    schema: &'s Schema,
-    facts: Facts,
-    store: S,
+pub struct Case<'s, S: Store, W: Worklist> {
+    course: Course<'s, S>,
     worklist: W,
     number: u32,
 }

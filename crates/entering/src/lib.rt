@@ -1,5 +1,5 @@
 // Entries are entered in a case's facts and store, and who is then offered.
 #![tactic(auto)]
 
-pub mod entries;
+pub mod course;
 pub mod offers;

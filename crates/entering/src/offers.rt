@@ -1,6 +1,6 @@
 // Who is offered to the users of a case.
 ghost use Rattle.std.specs.Prelude.{◌≡◌, ℕ, ◌&&◌, None, slice_index_or};
-ghost use Rattle.ids.specs.Sets.{has};
+ghost use Rattle.ids.specs.Sets.{has, is_id};
 ghost use Rattle.schema.specs.Schemas.{parts};
 ghost use Rattle.facts.specs.Facts.{facts_by_id};
 ghost use Rattle.lives.specs.Offers.{is_activity, is_activated, offers};
@@ -11,22 +11,13 @@ use marking::marking::Marking;
 use model::{Element, State};
 use schema::schema::Schema;
 
-fn is_activated(state: Option<State>) -> bool
-    ensures { result ≡ is_activated state }
-{
-    match state {
-        Some(State::Activated) => true,
-        _ => false,
-    }
-}
-
 // The id of an element that is an Activated activity, if it is one.
-fn offered_of(element: Element, marking: &Marking) -> IdSet
-    ensures { (id : ℕ) → has result id ≡ (is_activity element id && is_activated (slice_index_or marking.now.states id None)) }
+fn offered_of(element: Element, marking: &Marking) -> Option<u8>
+    ensures { (id : ℕ) → is_id result id ≡ (is_activity element id && is_activated (slice_index_or marking.now.states id None)) }
 {
     match element {
-        Element::Activity(id) if is_activated(marking.state(id)) => IdSet::only(id),
-        _ => IdSet::empty(),
+        Element::Activity(id) if marking.state(id) == Some(State::Activated) => Some(id),
+        _ => None,
     }
 }
 
@@ -37,8 +28,9 @@ pub fn activated_activities(schema: &Schema, facts: &Facts) -> IdSet
     let marking = Marking::of(schema, facts);
     let row = schema.row();
     let mut ids = IdSet::empty();
-    for place in 0..row.len() {
-        ids = ids.union(offered_of(row[place], &marking));
+    // a loop: as a fold its proof didn't close, since the closure borrows the marking
+    for element in row {
+        ids = ids.with(offered_of(*element, &marking));
     }
     ids
 }

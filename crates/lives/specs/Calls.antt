@@ -18,7 +18,7 @@ use Rattle.case_record.specs.declared.RawEntry.{RawEntry}
 use Rattle.case_record.specs.CaseRecords.{RawCase, case_in}
 use Rattle.runs.specs.Steps.{step_in}
 use Rattle.agreement.specs.Laws.{no_facts}
-use Rattle.history.specs.declared.Full.{Full}
+use Rattle.bounded.specs.declared.methods.Full.{Full}
 use Rattle.history.specs.Stores.{StoreView, cleared, add_answer, added, purge_answer}
 use Rattle.rounds.specs.Rounds.{in_round, outside}
 use Rattle.lives.specs.Views.{CaseView, in_progress}

@@ -2,25 +2,36 @@
 #![tactic(auto)]
 
 ghost use Rattle.std.specs.Prelude.{◌≡◌};
+ghost use Rattle.lives.specs.declared.CallRefusal.TheVariants.{Case};
 ghost use Rattle.lives.specs.Laws.{LivesKeepTheirPromises};
 ghost use Rattle.lives.specs.Refusals.{call_reason};
 
 use model::refusal::{CaseRefusal, Reason};
 
 // Why a call on a case was refused: as the replay of a record refuses its line or a step, or since the store has no place.
-#[derive(Clone, Copy)]
+#[derive(Clone, Copy, PartialEq, Eq)]
 pub enum CallRefusal {
     Case(CaseRefusal),
     // a step that is no entry of a record has no place
     Store { place: Option<usize>, id: u8 },
 }
 
-impl CallRefusal {
-    pub fn reason(self) -> Reason
-        ensures { result ≡ call_reason self }
+impl From<CaseRefusal> for CallRefusal {
+    ghost from_gives = { λ refusal call. call ≡ Case refusal };
+
+    fn from(refusal: CaseRefusal) -> CallRefusal {
+        CallRefusal::Case(refusal)
+    }
+}
+
+impl From<CallRefusal> for Reason {
+    ghost from_gives = { λ refusal reason. reason ≡ call_reason refusal };
+
+    fn from(refusal: CallRefusal) -> Reason
+        ensures { result ≡ call_reason refusal }
     {
-        match self {
-            CallRefusal::Case(refusal) => refusal.reason(),
+        match refusal {
+            CallRefusal::Case(case) => Reason::from(case),
             CallRefusal::Store { place, id } => Reason {
                 place,
                 id: Some(id),

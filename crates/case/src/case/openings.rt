@@ -9,7 +9,7 @@ ghost use Rattle.case.specs.CaseViews.{view_of, emptied};
 
 use crate::case::Case;
 use case_record::CaseRecord;
-use entering::entries::take_all;
+use entering::course::Course;
 use facts::Facts;
 use history::Store;
 use lives::CallRefusal;
@@ -18,16 +18,19 @@ use record::Record;
 use schema::schema::Schema;
 use worklist::Worklist;
 
-impl<'s, const COST: usize, S: Store<COST>, W: Worklist> Case<'s, COST, S, W> {
+impl<'s, S: Store, W: Worklist> Case<'s, S, W> {
     // A case of this schema, opened; what store and worklist held is cleared.
-    pub fn new(schema: &'s Schema, store: S, worklist: W, number: u32) -> Case<'s, COST, S, W>
-        ensures after { view_of S.Store.view W.Worklist.offered result ≡ opened_on number (parts schema.now) (S.Store.view store) }
-        ensures life { Life COST opened_history (view_of S.Store.view W.Worklist.offered result) }
+    pub fn new(schema: &'s Schema, store: S, worklist: W, number: u32) -> Case<'s, S, W>
+        ensures after { view_of S.view W.offered result ≡ opened_on number (parts schema.now) (S.view store) }
+        ensures life { Life S.Cost.PLACES opened_history (view_of S.view W.offered result) }
     {
-        let mut case = Case {
+        let course = Course {
             schema,
             facts: Facts::none(),
             store,
+        };
+        let mut case = Case {
+            course,
             worklist,
             number,
         };
@@ -37,45 +40,40 @@ impl<'s, const COST: usize, S: Store<COST>, W: Worklist> Case<'s, COST, S, W> {
 
     // Nothing has happened, and nothing is offered yet.
     fn begin(&mut self, number: u32)
-        ensures { view_of S.Store.view W.Worklist.offered self.new ≡ emptied number (view_of S.Store.view W.Worklist.offered self.old) }
+        ensures { view_of S.view W.offered self.new ≡ emptied number (view_of S.view W.offered self.old) }
     {
         self.number = number;
-        self.facts = Facts::none();
-        self.store.clear();
+        self.course.begin();
         self.worklist.clear();
     }
 
     // Opens the case, since a line was none.
     fn refuse_line(&mut self) -> Result<(), CallRefusal>
-        ensures answer { result ≡ (by_record (view_of S.Store.view W.Worklist.offered self.old) None).answer }
-        ensures after { view_of S.Store.view W.Worklist.offered self.new ≡ (by_record (view_of S.Store.view W.Worklist.offered self.old) None).after }
+        ensures answer { result ≡ (by_record (view_of S.view W.offered self.old) None).answer }
+        ensures after { view_of S.view W.offered self.new ≡ (by_record (view_of S.view W.offered self.old) None).after }
     {
         self.open(0);
-        Err(CallRefusal::Case(CaseRefusal::Line))
+        Err(CaseRefusal::Line.into())
     }
 
     // Begins with the history of a record.
     fn load_history(&mut self, history: CaseRecord<'_>) -> Result<(), CallRefusal>
-        ensures answer { result ≡ (by_record (view_of S.Store.view W.Worklist.offered self.old) (Some (raw history.entry))).answer }
-        ensures after { view_of S.Store.view W.Worklist.offered self.new ≡ (by_record (view_of S.Store.view W.Worklist.offered self.old) (Some (raw history.entry))).after }
+        ensures answer { result ≡ (by_record (view_of S.view W.offered self.old) (Some (raw history.entry))).answer }
+        ensures after { view_of S.view W.offered self.new ≡ (by_record (view_of S.view W.offered self.old) (Some (raw history.entry))).after }
     {
         self.begin(history.number);
-        match take_all(self.schema, &mut self.facts, &mut self.store, history) {
-            Ok(()) => {
-                self.refresh();
-                Ok(())
-            }
-            Err(refusal) => {
-                self.open(history.number);
-                Err(refusal)
-            }
+        let taken = self.course.take_all(history);
+        match taken {
+            Ok(()) => self.refresh(),
+            Err(_) => self.open(history.number),
         }
+        taken
     }
 
     // Begins a new life on the same schema, store and worklist.
     pub fn open(&mut self, number: u32)
-        ensures after { view_of S.Store.view W.Worklist.offered self.new ≡ opened number (view_of S.Store.view W.Worklist.offered self.old) }
-        ensures life { Life COST opened_history (view_of S.Store.view W.Worklist.offered self.new) }
+        ensures after { view_of S.view W.offered self.new ≡ opened number (view_of S.view W.offered self.old) }
+        ensures life { Life S.Cost.PLACES opened_history (view_of S.view W.offered self.new) }
     {
         self.begin(number);
         self.refresh();
@@ -83,18 +81,20 @@ impl<'s, const COST: usize, S: Store<COST>, W: Worklist> Case<'s, COST, S, W> {
 
     // Begins a new life with the case that a line writes, each entry judged in full before the next. A refused load
     // leaves the case opened and empty.
+    #[tactic(auto, using(crate::proofs::Living::life_loaded, schema::proofs::Checked::schema_checked))]
     pub fn load(&mut self, line: &[u8]) -> Result<(), CallRefusal>
-        ensures answer { result ≡ (load_outcome line.now (view_of S.Store.view W.Worklist.offered self.old)).answer }
-        ensures after { view_of S.Store.view W.Worklist.offered self.new ≡ (load_outcome line.now (view_of S.Store.view W.Worklist.offered self.old)).after }
-        ensures life { Life COST (loaded_history line.now (view_of S.Store.view W.Worklist.offered self.old)) (view_of S.Store.view W.Worklist.offered self.new) }
+        ensures answer { result ≡ (load_outcome line.now (view_of S.view W.offered self.old)).answer }
+        ensures after { view_of S.view W.offered self.new ≡ (load_outcome line.now (view_of S.view W.offered self.old)).after }
+        ensures life { Life S.Cost.PLACES (loaded_history line.now (view_of S.view W.offered self.old)) (view_of S.view W.offered self.new) }
         ensures promise { LivesKeepTheirPromises }
     {
-        match Record::decode(line) {
-            Some(record) => match CaseRecord::read(record.bytes()) {
-                Some(history) => self.load_history(history),
-                None => self.refuse_line(),
-            },
-            None => self.refuse_line(),
-        }
+        // the history borrows the record, so no one call gives both and one `else` answers for both
+        let Ok(record) = Record::try_from(line) else {
+            return self.refuse_line();
+        };
+        let Ok(history) = CaseRecord::try_from(record.bytes()) else {
+            return self.refuse_line();
+        };
+        self.load_history(history)
     }
 }

@@ -13,23 +13,23 @@ use model::State;
 use schema::schema::Schema;
 use worklist::Worklist;
 
-impl<'s, const COST: usize, S: Store<COST>, W: Worklist> Case<'s, COST, S, W> {
+impl<'s, S: Store, W: Worklist> Case<'s, S, W> {
     // The states of all nodes, the decided branches, and whether the case is finished.
     pub fn marking(&self) -> Marking
-        ensures { MarkingOf (parts self.now.schema.now).row (parts self.now.schema.now).edges (facts_by_id self.now.facts) result }
+        ensures { MarkingOf (parts self.now.course.schema.now).row (parts self.now.course.schema.now).edges (facts_by_id self.now.course.facts) result }
     {
-        Marking::of(self.schema, &self.facts)
+        Marking::of(self.course.schema, &self.course.facts)
     }
 
     // The state of one node, if the schema has it.
     pub fn state(&self, id: u8) -> Option<State>
-        ensures { result ≡ state_in (parts self.now.schema.now).row (parts self.now.schema.now).edges (facts_by_id self.now.facts) id }
+        ensures { result ≡ state_in (parts self.now.course.schema.now).row (parts self.now.course.schema.now).edges (facts_by_id self.now.course.facts) id }
     {
-        node_state(self.schema, &self.facts, id)
+        node_state(self.course.schema, &self.course.facts, id)
     }
 
     pub fn is_finished(&self) -> bool
-        ensures { result ≡ finished_in (parts self.now.schema.now).row (facts_by_id self.now.facts) }
+        ensures { result ≡ finished_in (parts self.now.course.schema.now).row (facts_by_id self.now.course.facts) }
     {
         self.marking().is_finished()
     }
@@ -41,15 +41,15 @@ impl<'s, const COST: usize, S: Store<COST>, W: Worklist> Case<'s, COST, S, W> {
     }
 
     pub fn schema(&self) -> &'s Schema
-        ensures { result.now ≡ self.now.schema.now }
+        ensures { result.now ≡ self.now.course.schema.now }
     {
-        self.schema
+        self.course.schema
     }
 
     pub fn store(&self) -> &S
-        ensures { result.now ≡ self.now.store }
+        ensures { result.now ≡ self.now.course.store }
     {
-        &self.store
+        &self.course.store
     }
 
     pub fn worklist(&self) -> &W
@@ -60,16 +60,14 @@ impl<'s, const COST: usize, S: Store<COST>, W: Worklist> Case<'s, COST, S, W> {
 
     // Takes the case apart.
     pub fn into_parts(self) -> (S, W)
-        ensures store { result.0 ≡ self.entry.store }
+        ensures store { result.0 ≡ self.entry.course.store }
         ensures worklist { result.1 ≡ self.entry.worklist }
     {
         let Case {
-            schema: _,
-            facts: _,
-            store,
+            course,
             worklist,
             number: _,
         } = self;
-        (store, worklist)
+        (course.store, worklist)
     }
 }

@@ -1,0 +1,16 @@
+use Rattle.std.proofs.Common.{◌≡◌, drop}
+use Rattle.case_record.specs.Entries.{entries_in}
+use Rattle.lives.specs.Calls.{entries_taken}
+use Rattle.entering.specs.Courses.{schema_of, held_in}
+use Rattle.entering.proofs.course.Course.take_all.Given as goal
+
+abbrev pub invariant-loop-place : goal.invariant-loop-place
+invariant-loop-place g l =
+    let view = g.S.Store.view in
+    let S = schema_of l.initial.self in
+    let rs = entries_in l.fn.history.entries.now in
+    record {
+      same : entries_taken S 0 rs (held_in view l.initial.self) ≡ entries_taken S l.place (drop l.place rs) (held_in view l.self);
+      capacity : (view l.self.store).capacity ≡ (view l.initial.self.store).capacity;
+      schema : l.self.schema ≡ l.initial.self.schema;
+    }
