@@ -99,6 +99,11 @@ def enums():
             yield path, line_of(plain, match.start()), match.group(1), variants, bare
 
 
+def together(groups, least):
+    """Those of the groups that have this many places or more."""
+    return [(key, places) for key, places in groups.items() if len(places) >= least]
+
+
 def point_1():
     for path, line, name, variants, bare in enums():
         if len(variants) <= 3 and bare:
@@ -115,19 +120,15 @@ def point_2():
     alike = defaultdict(list)
     for f in functions():
         if len(f.body.split()) > 4:
-            alike[shape(f.body)].append(f)
-    for group in alike.values():
-        if len(group) > 1:
-            yield "; ".join(f"{f.path}:{f.line} {f.name}" for f in group)
+            alike[shape(f.body)].append(f"{f.path}:{f.line} {f.name}")
     kinds = defaultdict(list)
     for path, line, name, variants, _ in enums():
         kinds[name].append(f"{path}:{line} enum {name}")
     for path, text in sources():
         for match in re.finditer(r"\bstruct (\w+)", without_comments(text)):
             kinds[match.group(1)].append(f"{path}:{line_of(text, match.start())} struct {match.group(1)}")
-    for group in kinds.values():
-        if len(group) > 1:
-            yield "; ".join(group)
+    for _, places in together(alike, 2) + together(kinds, 2):
+        yield "; ".join(places)
 
 
 def point_3():
@@ -151,14 +152,10 @@ def point_5():
         for i, one in enumerate(names):
             for other in names[i + 1 :]:
                 bundles[f.path.split("/")[1], one, other].add(where)
-    for (crate, clause), places in clauses.items():
-        if len(places) > 2:
-            yield f"{crate}: {clause}: " + "; ".join(places)
-    for (crate, one, other), places in bundles.items():
-        if len(places) > 2:
-            yield f"{crate}: {one[0]}: {one[1]}, {other[0]}: {other[1]}: " + "; ".join(sorted(places))
-
-
+    for (crate, clause), places in together(clauses, 3):
+        yield f"{crate}: {clause}: " + "; ".join(places)
+    for (crate, one, other), places in together(bundles, 3):
+        yield f"{crate}: {one[0]}: {one[1]}, {other[0]}: {other[1]}: " + "; ".join(sorted(places))
     yield from grep(r"const \w+: usize, S: Store<")
 
 
