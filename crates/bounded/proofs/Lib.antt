@@ -1,1 +1,1 @@
-mod Retaining
+pub mod Replicas

@@ -12,6 +12,7 @@ pub struct IdSet {
 }
 
 impl IdSet {
+    // Named, since a default would not say that it is empty.
     pub fn empty() -> IdSet
         ensures value { result ≡ empty }
         ensures members { (i : ℕ) → has result i ≡ false }
@@ -75,6 +76,7 @@ impl IdSet {
     pub fn len(self) -> usize
         ensures { result ≡ how_many (has self) }
     {
+        // by a cast: there is no `From` from u32
         self.bits.count_ones() as usize
     }
 }

@@ -48,8 +48,8 @@ entry_read kind id branch =
     (cond (kind == 4) (without_branch branch (Leave id)) None)))
 
 -- What the conversion of the three bytes answers.
-abbrev pub entry_from : ℕ × ℕ × ℕ → Result Entry Unspelled
-entry_from bytes = ok_or (entry_read bytes.0 bytes.1 bytes.2) (record {})
+abbrev pub entry_spelled : ℕ × ℕ × ℕ → Result Entry Unspelled
+entry_spelled bytes = ok_or (entry_read bytes.0 bytes.1 bytes.2) (record {})
 
 -- The state that a step needs its node to be in: a finish needs a Running activity, the others an Activated node.
 abbrev pub needed : Entry → State

@@ -3,7 +3,7 @@
 
 ghost use Rattle.std.specs.Prelude.{◌≡◌};
 ghost use Rattle.model.specs.Elements.{element_read, Spells, node_id};
-ghost use Rattle.model.specs.Entries.{entry_from, EntrySpells, entry_id};
+ghost use Rattle.model.specs.Entries.{entry_spelled, EntrySpells, entry_id};
 
 pub mod refusal;
 
@@ -13,7 +13,7 @@ use std::fmt;
 
 // One element of a schema's row. Activities, decisions (of an XOR split) and tests (of a loop end) are
 // its nodes, and only they have an id.
-#[derive(Clone, Copy, PartialEq, Eq)]
+#[derive(Clone, Copy, PartialEq, Eq, Debug)]
 pub enum Element {
     Activity(u8),
     AndSplit,
@@ -29,14 +29,14 @@ pub enum Element {
 const NO_ID: u8 = 0xFF;
 
 // A sync edge: its target waits for its source.
-#[derive(Clone, Copy, PartialEq, Eq)]
+#[derive(Clone, Copy, PartialEq, Eq, Debug)]
 pub struct Edge {
     pub source: u8,
     pub target: u8,
 }
 
 // What has happened to a node.
-#[derive(Clone, Copy, PartialEq, Eq)]
+#[derive(Clone, Copy, PartialEq, Eq, Debug)]
 pub enum Fact {
     Nothing,
     // of an activity
@@ -49,7 +49,7 @@ pub enum Fact {
 }
 
 // What passes a gap of a row. An `Option<bool>` would be no plainer: the rules call the three by these names.
-#[derive(Clone, Copy, PartialEq, Eq)]
+#[derive(Clone, Copy, PartialEq, Eq, Debug)]
 pub enum Signal {
     None,
     True,
@@ -57,7 +57,7 @@ pub enum Signal {
 }
 
 // What a node is doing.
-#[derive(Clone, Copy, PartialEq, Eq)]
+#[derive(Clone, Copy, PartialEq, Eq, Debug)]
 pub enum State {
     NotActivated,
     Activated,
@@ -67,7 +67,7 @@ pub enum State {
 }
 
 // A step of a case, as its history keeps it.
-#[derive(Clone, Copy, PartialEq, Eq)]
+#[derive(Clone, Copy, PartialEq, Eq, Debug)]
 pub enum Entry {
     // of an activity
     Start(u8),
@@ -132,10 +132,10 @@ impl Element {
 impl TryFrom<(u8, u8, u8)> for Entry {
     type Error = Unspelled;
 
-    ghost try_from_gives = { λ bytes entry. entry ≡ entry_from bytes };
+    ghost try_from_gives = { λ bytes entry. entry ≡ entry_spelled bytes };
 
     fn try_from(bytes: (u8, u8, u8)) -> Result<Entry, Unspelled>
-        ensures value { result ≡ entry_from bytes }
+        ensures value { result ≡ entry_spelled bytes }
         ensures spelled { EntrySpells bytes result }
     {
         match bytes {

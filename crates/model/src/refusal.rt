@@ -4,6 +4,7 @@ ghost use Rattle.model.specs.declared.refusal.CaseRefusal.TheVariants.{Step};
 ghost use Rattle.model.specs.Refusals.{schema_reason, case_reason};
 
 use crate::Unspelled;
+use std::error::Error;
 use std::fmt;
 
 // Why a schema line was refused: the first of these that applies, in this order.
@@ -22,7 +23,7 @@ pub enum SchemaRefusal {
 }
 
 // Why a step is refused.
-#[derive(Clone, Copy, PartialEq, Eq)]
+#[derive(Clone, Copy, PartialEq, Eq, Debug)]
 pub enum StepRefusal {
     // the entry is none, or there is no node of its kind with the id, or no such branch
     Node,
@@ -43,7 +44,7 @@ impl From<Unspelled> for StepRefusal {
 
 impl StepRefusal {
     // A case is refused for it: the step is of this node, and at this place if it is an entry of a record.
-    pub fn of(self, place: Option<usize>, id: u8) -> CaseRefusal
+    pub fn at(self, place: Option<usize>, id: u8) -> CaseRefusal
         ensures { result ≡ Step place id self }
     {
         CaseRefusal::Step {
@@ -55,7 +56,7 @@ impl StepRefusal {
 }
 
 // Why a case was refused: the line, or a step of it. A step that is no entry of a record has no place.
-#[derive(Clone, Copy, PartialEq, Eq)]
+#[derive(Clone, Copy, PartialEq, Eq, Debug)]
 pub enum CaseRefusal {
     Line,
     Step {
@@ -67,7 +68,7 @@ pub enum CaseRefusal {
 
 // A refusal as it is told: its number, the layer of checks that gave it, the place in what was checked and
 // the id concerned, where there are such. It is only told: code goes by the enums that it is made from.
-#[derive(Clone, Copy)]
+#[derive(Clone, Copy, PartialEq, Eq, Debug)]
 pub struct Reason {
     pub place: Option<usize>,
     pub id: Option<u8>,
@@ -122,19 +123,43 @@ impl From<CaseRefusal> for Reason {
     }
 }
 
+// A refusal prints as its reason.
+impl fmt::Display for SchemaRefusal {
+    fn fmt<W: fmt::Write>(&self, f: &mut fmt::Formatter<W>) -> fmt::Result {
+        write!(f, "{}", Reason::from(*self))
+    }
+}
+
+impl Error for SchemaRefusal {}
+
+impl fmt::Display for CaseRefusal {
+    fn fmt<W: fmt::Write>(&self, f: &mut fmt::Formatter<W>) -> fmt::Result {
+        write!(f, "{}", Reason::from(*self))
+    }
+}
+
+impl Error for CaseRefusal {}
+
 // As programs print it.
 impl fmt::Display for Reason {
     fn fmt<W: fmt::Write>(&self, f: &mut fmt::Formatter<W>) -> fmt::Result {
         let number = self.number;
         let layer = self.layer;
-        write!(f, "refused {number}, layer {layer}, place ")?;
-        match self.place {
-            Some(place) => write!(f, "{place}")?,
-            None => write!(f, "none")?,
-        }
-        match self.id {
-            Some(id) => write!(f, ", id {id}"),
-            None => write!(f, ", id none"),
+        let place = OrNone(self.place);
+        let id = OrNone(self.id);
+        write!(f, "refused {number}, layer {layer}, place {place}, id {id}")
+    }
+}
+
+// Prints as its value, or as the word "none".
+#[derive(Clone, Copy)]
+struct OrNone<T>(Option<T>);
+
+impl<T: fmt::Display> fmt::Display for OrNone<T> {
+    fn fmt<W: fmt::Write>(&self, f: &mut fmt::Formatter<W>) -> fmt::Result {
+        match &self.0 {
+            Some(value) => write!(f, "{value}"),
+            None => f.write_str("none"),
         }
     }
 }

@@ -1,4 +1,6 @@
--- Bytes two by two: how many pairs there are, what stands in each, and back again.
+-- Bytes two by two: how many pairs there are, what stands in each, and back again. Case and plan records have the same of
+-- three and four bytes. One lemma over the size would be no shorter: bytes are taken apart by a case for each, and that
+-- would go into its premises.
 use Rattle.std.proofs.Common.{◌≡◌, ℕ, suc, ◌*◌, ◌/◌, ◌<◌, List, [], ◌∷◌, map, length, refl, ap, arith}
 use Rattle.std.specs.List.{AllByRecursion}
 use Rattle.record.specs.Pairs.{pair_of, pairs, unpaired, Paired}

@@ -21,7 +21,7 @@ read_at (t ∷ hi ∷ lo ∷ n ∷ rest) four one fits =
     cond-true (eqb t 1 && leb (2 * n) (length rest)) _ _ (and_from _ _ (eq-eqb t 1 one) (le-leb _ _ room))
     ∙ ap (λ r. with_edges (hi * 256 + lo) (take (2 * n) r) (edges_in (drop (2 * n) r))) (sym e)
 
--- the same, from what `split_at` gives and what is found in its second part; the count may have been widened
+-- the same, from what `split_at_checked` gives and what is found in its second part; the count may have been widened
 pub read_by : (bs : List ℕ) (n : ℕ) (xs ys : List ℕ) (o : Option (List ℕ)) → 4 ≤ length bs → get_or bs 0 0 ≡ 1 → n ≡ get_or bs 3 0 → 2 * n ≤ length (rest_of 4 bs) →
     xs ≡ take (2 * n) (rest_of 4 bs) → ys ≡ drop (2 * n) (rest_of 4 bs) → o ≡ edges_in ys →
     with_edges (get_or bs 1 0 * 256 + get_or bs 2 0) xs o ≡ read_schema bs

@@ -1,6 +1,5 @@
 -- What a line buffer holds of the line that comes in.
 use Rattle.std.specs.Prelude.{ℕ, cond, List, [], ◌∷◌, ◌++◌, length, Some, None, Option, nat_le, nat_lt}
-use Rattle.record.specs.declared.LineBuffer.{LineBuffer}
 
 -- the whole line so far, or only that it is too long
 pub data Held : Type 0 where
@@ -20,7 +19,3 @@ pushed Overlong c = Overlong
 abbrev pub whole_line : Held → Option (List ℕ)
 whole_line (Short cs) = Some cs
 whole_line Overlong = None
-
--- what a buffer holds
-abbrev pub held : LineBuffer → Held
-held b = held_of b.chars.items

@@ -1,8 +1,6 @@
 // Lines and the records that they spell.
 #![tactic(auto)]
 
-ghost use Rattle.std.specs.Prelude.{◌≤◌, length};
-
 mod items;
 mod laws;
 mod lines;
@@ -16,6 +14,9 @@ pub use items::item;
 pub use laws::{decoding_inverts_hex, reading_inverts_writing};
 use model::refusal::SchemaRefusal;
 pub use schemas::{SchemaRecord, pair, pairs};
+use std::error::Error;
+use std::fmt;
+use std::marker::Model;
 
 // How many characters a line may have.
 pub const LINE_LIMIT: usize = 1024;
@@ -29,6 +30,14 @@ const HELD_LIMIT: usize = LINE_LIMIT + 1;
 // What was given is not the writing of what was to be read.
 #[derive(Clone, Copy, PartialEq, Eq, Debug)]
 pub struct Malformed;
+
+impl fmt::Display for Malformed {
+    fn fmt<W: fmt::Write>(&self, f: &mut fmt::Formatter<W>) -> fmt::Result {
+        f.write_str("the bytes are no record")
+    }
+}
+
+impl Error for Malformed {}
 
 // A schema line is then refused as a line.
 impl From<Malformed> for SchemaRefusal {
@@ -46,11 +55,30 @@ impl From<Malformed> for SchemaRefusal {
 #[derive(Drop)]
 pub struct Record {
     bytes: ArrayVec<u8, RECORD_LIMIT>,
-    ghost fits: { length bytes.items ≤ 512 },
+}
+
+// A clause sees the bytes.
+impl Model for Record {
+    ghost use Rattle.std.specs.Prelude.{ℕ, ◌≤◌, List, length};
+
+    ghost Value = { List ℕ };
+
+    ghost view = { λ r. r.bytes.items };
+
+    ghost invariant = { λ r. length r.bytes.items ≤ 512 };
 }
 
 // A line as it comes in. Of a line that is too long, the first characters are held.
 #[derive(Drop)]
 pub struct LineBuffer {
     chars: ArrayVec<u8, HELD_LIMIT>,
+}
+
+// A clause sees what is held of the line.
+impl Model for LineBuffer {
+    ghost use Rattle.record.specs.Lines.{Held, held_of};
+
+    ghost Value = { Held };
+
+    ghost view = { λ b. held_of b.chars.items };
 }

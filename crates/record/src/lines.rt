@@ -1,14 +1,14 @@
 // A buffer for lines that come in character by character.
 ghost use Rattle.std.specs.Prelude.{◌≡◌, ℕ, List, [], ◌∷◌, ◌++◌};
 ghost use Rattle.std.specs.Option.{option_map};
-ghost use Rattle.record.specs.Lines.{Short, held, held_of, pushed, whole_line};
+ghost use Rattle.record.specs.Lines.{Short, held_of, pushed, whole_line};
 
 use crate::LineBuffer;
 use arrayvec::ArrayVec;
 
 impl LineBuffer {
     pub fn new() -> LineBuffer
-        ensures { held result ≡ Short [] }
+        ensures { result ≡ Short [] }
     {
         LineBuffer {
             chars: ArrayVec::new(),
@@ -17,15 +17,15 @@ impl LineBuffer {
 
     // Makes room for the next line.
     pub fn clear(&mut self)
-        ensures { held self.new ≡ Short [] }
+        ensures { self.new ≡ Short [] }
     {
         self.chars.clear();
     }
 
     // One more character of the line. A line that is once too long stays so.
     pub fn push(&mut self, character: u8)
-        ensures value { held self.new ≡ pushed (held self.old) character }
-        ensures grows { (cs : List ℕ) → held self.old ≡ held_of cs → held self.new ≡ held_of (cs ++ character ∷ []) }
+        ensures value { self.new ≡ pushed self.old character }
+        ensures grows { (cs : List ℕ) → self.old ≡ held_of cs → self.new ≡ held_of (cs ++ character ∷ []) }
     {
         if !self.chars.is_full() {
             self.chars.push(character);
@@ -34,7 +34,7 @@ impl LineBuffer {
 
     // The line, unless it is too long.
     pub fn line(&self) -> Option<&[u8]>
-        ensures { option_map (λ x. x.now) result ≡ whole_line (held self.now) }
+        ensures { option_map (λ x. x.now) result ≡ whole_line self.now }
     {
         if self.chars.is_full() {
             None

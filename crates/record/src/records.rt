@@ -1,7 +1,7 @@
 // Reading a line's hexadecimal.
 ghost use Rattle.std.specs.Prelude.{◌≡◌, ◌≤◌, length};
 ghost use Rattle.record.specs.Hex.{byte_of, digit_value};
-ghost use Rattle.record.specs.Records.{record_bytes, DecodesTo};
+ghost use Rattle.record.specs.Records.{DecodesTo};
 
 use crate::{LINE_LIMIT, Malformed, Record};
 use arrayvec::ArrayVec;
@@ -43,7 +43,7 @@ impl TryFrom<&[u8]> for Record {
 
 impl Record {
     pub fn bytes(&self) -> &[u8]
-        ensures bytes { result.now ≡ record_bytes self.now }
+        ensures bytes { result.now ≡ self.now }
         ensures few { length result.now ≤ 512 }
     {
         self.bytes.as_slice()

@@ -8,7 +8,8 @@ ghost use Rattle.record.specs.Readings.{ReadsTo};
 
 use crate::Malformed;
 
-// A schema record as it stands in a line; nothing of it is judged yet.
+// A schema record as it stands in a line; nothing of it is judged yet. The rows are bare bytes and no pairs: anyone may
+// build a record of any bytes, and pairs would ask more of them.
 #[derive(Clone, Copy)]
 pub struct SchemaRecord<'a> {
     pub version: u16,
@@ -51,6 +52,7 @@ fn edges_in(bytes: &[u8]) -> Option<&[u8]>
 }
 
 // Bytes that lie two by two; a lone last byte is dropped.
+#[tactic(auto, using(crate::proofs::Pairings::pairs_pieces))]
 pub fn pairs(bytes: &[u8]) -> &[[u8; 2]]
     ensures { map pair_of result.now ≡ pairs bytes.now }
 {
@@ -62,6 +64,7 @@ pub fn pair(bytes: &[u8], i: usize) -> Option<(u8, u8)>
     ensures value { result ≡ slice_get (pairs bytes.now) i }
     ensures cases { MatchOption result (length (pairs bytes.now) ≤ i) (λ p. (i < length (pairs bytes.now)) × (p ≡ slice_index_or (pairs bytes.now) i (0, 0))) }
 {
+    // by a pattern, which shows their order; `item` with the tuple's own conversion would hide it
     let [first, second] = *pairs(bytes).get(i)?;
     Some((first, second))
 }

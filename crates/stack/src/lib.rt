@@ -1,10 +1,10 @@
 // A stack of at most 128 values: one for each element of a row at most.
 #![tactic(auto)]
 
-ghost use Rattle.std.specs.Prelude.{◌≡◌, ◌≤◌, List, reverse, length, take};
+ghost use Rattle.std.specs.Prelude.{◌≡◌, ◌≤◌, List, [], reverse, length, take};
+ghost use Rattle.stack.specs.Items.{head, tail, pushed};
 
-pub mod methods;
-pub mod moves;
+mod moves;
 
 pub use moves::Move;
 use std::marker::Model;
@@ -24,4 +24,41 @@ impl<T> Model for Stack<T> {
     ghost view = { λ s. reverse (take s.depth s.places) };
 
     ghost invariant = { λ s. (s.depth ≤ 128) × (length s.places ≡ 128) };
+}
+
+impl<T: Copy> Stack<T> {
+    // An empty stack; `fill` stands in its unused places.
+    pub fn new(fill: T) -> Stack<T>
+        ensures { result ≡ [] }
+    {
+        Stack {
+            depth: 0,
+            places: [fill; 128],
+        }
+    }
+
+    // The value that was pushed last.
+    pub fn top(&self) -> Option<T>
+        ensures value { result ≡ head self.now }
+        ensures few { length self.now ≤ 128 }
+    {
+        self.places[..self.depth].last().copied()
+    }
+
+    // Puts a value on top; a full stack stays as it is.
+    pub fn push(&mut self, value: T)
+        ensures { self.new ≡ pushed value self.old }
+    {
+        if self.depth < 128 {
+            self.places[self.depth] = value;
+            self.depth += 1;
+        }
+    }
+
+    // Takes the value on top away, if there is one.
+    pub fn pop(&mut self)
+        ensures { self.new ≡ tail self.old }
+    {
+        self.depth = self.depth.saturating_sub(1);
+    }
 }

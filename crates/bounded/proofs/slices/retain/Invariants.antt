@@ -1,7 +1,0 @@
-use Rattle.std.specs.Fn.{CalledAt}
-use Rattle.bounded.proofs.Retaining.{Retaining}
-use Rattle.bounded.proofs.slices.retain.Given as goal
-
-abbrev pub invariant-loop-i : goal.invariant-loop-i
-invariant-loop-i g l = goal.F-IsAlwaysCallable g l.keeps
-    × Retaining (CalledAt g.F.FnMut) l.initial.keeps l.initial.items l.keeps l.items l.kept l.i
