@@ -35,7 +35,7 @@ at_once : (s : List Frame) (p : ℕ) → Stop s [] p p
 at_once s p = record { k = 0; place = omega arith; within = omega arith; rest = closing s; good = closed s; bad = λ h. absurd (omega arith) }
 
 stop_end : (s : List Frame) (p q : ℕ) → at_end s p ≡ Some q → Stop s [] p q
-stop_end [] p q e = absurd (let z : ◌≡◌ {A = ℕ} 0 1 = cc in omega arith)
+stop_end [] p q e = absurd cc
 stop_end (f ∷ s) p q e = let same : p ≡ q = cc in subst (Stop (f ∷ s) [] p) same (at_once (f ∷ s) p)
 
 stop_at : (x : Element) (xs : List Element) (s : List Frame) (p q : ℕ) (o : Option (List Frame)) → opens x s ≡ o

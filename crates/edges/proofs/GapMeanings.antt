@@ -23,7 +23,7 @@ pub has_one : (i : ℕ) → i < 64 → Has (only i) (λ u. u ≡ i)
 has_one i h u = Decides-at _ _ (laws.has_only i u h) (Decides-eqb u i)
 
 never : (b : Bool) → b ≡ false → b ≡ true → ⊥
-never b p q = let z : ◌≡◌ {A = ℕ} 0 1 = cc in omega arith
+never b p q = cc
 
 pub has_nothing : Has empty (λ u. ⊥)
 has_nothing u = (never (has empty u) (laws.has_empty u), λ h. elim h [ ])

@@ -12,7 +12,7 @@ use Rattle.edges.proofs.GapMeanings.{has_union, Means, ◌∪◌, None, Turned, 
 use Rattle.edges.proofs.NodeRelations.{before_in, before_in_item, before_in_branches, beside_in, beside_in_item, beside_in_branches, across_in, Mate, MateItem, MateBranches, level_in, level_in_item, level_in_branches, mate_in, mate_in_item, mate_in_branches}
 
 never : {X : Type 0} → false ≡ true → X
-never e = absurd (let z : ◌≡◌ {A = ℕ} 0 1 = cc in omega arith)
+never e = absurd cc
 
 module _ (v u : ℕ) where
   -- those ahead of it

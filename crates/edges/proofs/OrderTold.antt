@@ -1,9 +1,9 @@
 -- The sets of a row are the relations of its tree: the laws of the public contracts. Assumes nothing.
-use Rattle.std.proofs.Common.{◌≡◌, ℕ, ◌<◌, ◌≤◌, Bool, true, false, ◌⊎◌, List, [], length, get_or, Ok, Err, Decides, Result, sym, refl, ap, ◌∙◌, subst, inl, inr, ⊎_elim, arith}
+use Rattle.std.proofs.Common.{◌≡◌, ℕ, ◌<◌, Bool, true, false, ◌⊎◌, List, [], length, get_or, Ok, Err, Decides, Result, sym, refl, ap, ◌∙◌, subst, inl, inr, ⊎_elim, arith}
+use Rattle.bounded.proofs.Replicas.{get_or-replicate_default}
 use Rattle.ids.specs.declared.IdSet.{IdSet}
 use Rattle.ids.specs.Sets.{has, empty}
-use Rattle.std.proofs.lemmas.List.{get_or-replicate, get_or_past, length-replicate}
-use Rattle.std.proofs.lemmas.Bool.{cases_lt}
+use Rattle.std.proofs.lemmas.List.{length-replicate}
 use Rattle.std.proofs.lemmas.Bool.Decides.{Decides-at, Decides-like, Decides-or}
 use Rattle.model.specs.declared.Element.{Element}
 use Rattle.model.specs.declared.Edge.{Edge}
@@ -27,14 +27,11 @@ use Rattle.edges.proofs.Ranks.{answer_low, ranked}
 use Rattle.edges.proofs.RowOrder.{precedes, before}
 use Rattle.edges.proofs.SharedLoops.{mate_same, same_turn, same_mate, beside_left, mate_acts, in?}
 
-at_empty : (v : ℕ) → get_or no_sets v empty ≡ empty
-at_empty v = ⊎_elim (λ h. get_or-replicate 64 v empty empty h) (λ h. get_or_past no_sets v empty (subst (λ n. n ≤ v) (sym (length-replicate {A = IdSet} 64 empty)) h)) (cases_lt v 64)
-
 none_yet : Means None None None None nowhere
 none_yet = record { ahead = has_nothing; seen = has_nothing; beside = has_nothing; mates = has_nothing }
 
 no : {P : Type 0} (b : Bool) → b ≡ false → (P → ⊥) → Decides b P
-no b e n = (λ q. absurd (let z : ◌≡◌ {A = ℕ} 0 1 = cc in omega arith), λ p. absurd (n p))
+no b e n = (λ q. absurd cc, λ p. absurd (n p))
 
 module _ (t : Seq) (o : Once t) (small : Small t) where
   room : (v : ℕ) → In t v → v < length no_sets
@@ -50,7 +47,7 @@ module _ (t : Seq) (o : Once t) (small : Small t) where
 
       outside : (In t v → ⊥) → Decides (within (befores (flatten t)) u v) (Before t u v)
       outside n =
-          no _ (ap (λ ss. has (get_or ss v empty) u) (on_tree preceding t nowhere no_sets) ∙ ap (λ s. has s u) (other preceding v t nowhere no_sets n ∙ at_empty v) ∙ has_empty u)
+          no _ (ap (λ ss. has (get_or ss v empty) u) (on_tree preceding t nowhere no_sets) ∙ ap (λ s. has s u) (other preceding v t nowhere no_sets n ∙ get_or-replicate_default 64 v empty) ∙ has_empty u)
           (λ b. n (before_in u v t b))
 
   partner_told : (u v : ℕ) → Decides (within (partners (flatten t)) u v) (Beside t u v × Mate t u v)
@@ -65,14 +62,14 @@ module _ (t : Seq) (o : Once t) (small : Small t) where
           (has_both _ _ (λ w. ⊥ ⊎ Beside t w v) (λ w. (⊥ × Level t v) ⊎ Mate t w v)
           (λ w. sides v w t None None None None nowhere o small none_yet h e) (λ w. mates v w t None None None None nowhere o small none_yet h e) u)
       by_kind h false e =
-          no _ (has_empty u) (λ (p : Beside t u v × Mate t u v). let q = mate_acts v u t o p.1 h in let z : ◌≡◌ {A = ℕ} 0 1 = cc in omega arith)
+          no _ (has_empty u) (λ (p : Beside t u v × Mate t u v). let q = mate_acts v u t o p.1 h in cc)
 
       inside : In t v → Decides (within (partners (flatten t)) u v) (Beside t u v × Mate t u v)
       inside h = Decides-at _ _ (read h) (by_kind h (acts v t h) refl)
 
       outside : (In t v → ⊥) → Decides (within (partners (flatten t)) u v) (Beside t u v × Mate t u v)
       outside n =
-          no _ (ap (λ ss. has (get_or ss v empty) u) (on_tree joinable t nowhere no_sets) ∙ ap (λ s. has s u) (other joinable v t nowhere no_sets n ∙ at_empty v) ∙ has_empty u)
+          no _ (ap (λ ss. has (get_or ss v empty) u) (on_tree joinable t nowhere no_sets) ∙ ap (λ s. has s u) (other joinable v t nowhere no_sets n ∙ get_or-replicate_default 64 v empty) ∙ has_empty u)
           (λ (p : Beside t u v × Mate t u v). n (beside_in u v t p.0))
 
   joins_told : (e : Edge) → Decides (joined (partners (flatten t)) e) (Joins t e.source e.target)

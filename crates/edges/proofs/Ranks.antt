@@ -19,7 +19,7 @@ count zero f = 0
 count (suc n) f = one (f n) + count n f
 
 clash : {X : Type 0} → false ≡ true → X
-clash e = absurd (let z : ◌≡◌ {A = ℕ} 0 1 = cc in omega arith)
+clash e = absurd cc
 
 one_le : (a b : Bool) → (a ≡ true → b ≡ true) → one a ≤ one b
 one_le true true h = omega arith
@@ -56,7 +56,7 @@ module _ (Joins Before : ℕ → ℕ → Type 0) where
   answer_low small (e ∷ es) earlier p (inl (ok, a)) =
       let s = small _ _ ok.joins in
       (s.0, s.1, answer_low small es (earlier ++ e ∷ []) (p + 1) a)
-  answer_low small (e ∷ es) earlier p (inr (bad, q)) = absurd (let z : ◌≡◌ {A = ℕ} 0 1 = cc in omega arith)
+  answer_low small (e ∷ es) earlier p (inr (bad, q)) = absurd cc
 
   module _ (es : List Edge) (low : LowEdges es) (small : (u v : ℕ) → Before u v → u < 64) where
     path_low : {u v : ℕ} → Path Before es u v → u < 64

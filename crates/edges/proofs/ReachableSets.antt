@@ -67,7 +67,7 @@ module _ (back : List IdSet) (e : Edge) (a_small : e.source < 64) (b_small : e.t
           ∙ ap (λ v. within back x y || (has g x && (v || within back b y))) (sym (ne_eqb y b q))
 
 decides_listed : (es : List Edge) (e : Edge) → Decides (listed es e) (Listed e.source e.target es)
-decides_listed [] e = (λ q. let z : ◌≡◌ {A = ℕ} 0 1 = cc in absurd (omega arith), λ l. elim l [ ])
+decides_listed [] e = (λ q. absurd cc, λ l. elim l [ ])
 decides_listed (d ∷ ds) e =
     Decides-or (same d e) (listed ds e)
     (Decides-like (same d e) (λ (l : (d.source ≡ e.source) × (d.target ≡ e.target)). (sym l.0, sym l.1)) (λ (l : Leads e.source e.target d). (sym l.0, sym l.1))
@@ -144,4 +144,4 @@ module _ (Joins Before : ℕ → ℕ → Type 0) where
       subst (Acyclic Before) (append_assoc earlier (e ∷ []) es)
       (acyclic es (earlier ++ e ∷ []) (p + 1) apart
       (stays_acyclic Before earlier e free (λ q. apart e.source (subst (λ k. Joins e.source k) (sym q) ok.joins)) ok.open_path) a)
-  acyclic (e ∷ es) earlier p apart free (inr (bad, q)) = absurd (let z : ◌≡◌ {A = ℕ} 0 1 = cc in omega arith)
+  acyclic (e ∷ es) earlier p apart free (inr (bad, q)) = absurd cc

@@ -14,7 +14,8 @@ use Rattle.edges.specs.declared.places.Spot.{Spot}
 use Rattle.edges.specs.declared.places.Opened.{Opened}
 use Rattle.stack.specs.declared.moves.Move.{Move}
 use Rattle.stack.specs.declared.moves.Move.TheVariants.{Stay, Open, Turn, Close}
-use Rattle.stack.specs.Items.{head, tail}
+use Rattle.stack.specs.Items.{head}
+use Rattle.stack.specs.Moves.{reached, blocks_after}
 
 abbrev pub spot : IdSet → IdSet → IdSet → IdSet → Spot
 spot a s b m = record { ahead = a; seen = s; beside = b; mates = m }
@@ -83,10 +84,7 @@ abbrev pub state : Spot → List Opened → State
 state s os = record { here = s; blocks = os }
 
 abbrev pub moved : Move Spot Opened → List Opened → State
-moved (Stay s) os = state s os
-moved (Open s o) os = state s (o ∷ os)
-moved (Turn s o) os = state s (o ∷ tail os)
-moved (Close s) os = state s (tail os)
+moved m os = state (reached m) (blocks_after m os)
 
 abbrev pub step : Element → State → State
 step x st = moved (moves x st.here (head st.blocks)) st.blocks

@@ -9,12 +9,13 @@ pub mod bad_edge;
 pub mod order;
 pub mod places;
 
+use bounded::get_or;
 use ids::IdSet;
 
 fn set_of(sets: &[IdSet], id: u8) -> IdSet
     ensures { result ≡ slice_index_or sets.now id empty }
 {
-    sets.get(usize::from(id)).copied().unwrap_or(IdSet::empty())
+    get_or(sets, usize::from(id), IdSet::empty())
 }
 
 // Whether an id is in the set that belongs to another.

@@ -1,11 +1,11 @@
-// What stands ahead of each node of a row and beside it, in one pass over the row.
-ghost use Rattle.std.specs.Prelude.{◌≡◌, ◌+◌, ◌<◌, ◌≤◌, true, length};
+// What stands ahead of a gap of a row and beside it, and how an element changes that.
+ghost use Rattle.std.specs.Prelude.{◌≡◌, true};
 ghost use Rattle.ids.specs.Sets.{empty, union};
-ghost use Rattle.edges.specs.Places.{past_node, past_activity, enter, enter_loop, turn, leave, leave_loop, moves, step, state, nowhere, opened, joinable};
+ghost use Rattle.edges.specs.Places.{past_node, past_activity, enter, enter_loop, turn, leave, leave_loop, moves, nowhere, opened, joinable};
 
 use ids::IdSet;
 use model::Element;
-use stack::{Move, Stack};
+use stack::Move;
 
 // A gap of a row. The sets are of nodes.
 #[derive(Clone, Copy)]
@@ -26,12 +26,12 @@ pub struct Opened {
     pub origin: Spot,
     // the nodes of its branches so far
     pub gathered: IdSet,
-    // of an AND block; an enum of two kinds would be no plainer
+    // whether it is an AND block: asked once, in `turn`, where an enum of two kinds would be matched as the flag is
     pub parallel: bool,
 }
 
 impl Spot {
-    // before the row
+    // before the row; named, since a default would not say so
     pub(crate) fn nowhere() -> Spot
         ensures { result ≡ nowhere }
     {
@@ -130,6 +130,34 @@ impl Spot {
             ..self.past_node(id)
         }
     }
+
+    // What an element that stands here does, within the innermost open block.
+    pub(crate) fn moves(self, element: Element, top: Option<Opened>) -> Move<Spot, Opened>
+        ensures { result ≡ moves element self top }
+    {
+        match (element, top) {
+            (Element::Activity(id), _) => Move::Stay(self.past_activity(id)),
+            (Element::AndSplit, _) => Move::Open(self.enter(), Opened::at(self, true)),
+            (Element::XorSplit(id), _) => {
+                let decided = self.past_node(id);
+                Move::Open(decided.enter(), Opened::at(decided, false))
+            }
+            (Element::LoopStart, _) => Move::Open(self.enter_loop(), Opened::at(self, false)),
+            (Element::Bar, Some(block)) => Move::Turn(
+                self.turn(block.parallel),
+                Opened {
+                    gathered: block.gathered.union(self.seen),
+                    ..block
+                },
+            ),
+            (Element::AndJoin | Element::XorJoin, Some(block)) => Move::Close(self.leave(
+                block.origin,
+                block.gathered,
+            )),
+            (Element::LoopEnd(id), Some(block)) => Move::Close(self.leave_loop(block.origin, id)),
+            _ => Move::Stay(self),
+        }
+    }
 }
 
 impl Opened {
@@ -143,42 +171,4 @@ impl Opened {
             parallel,
         }
     }
-}
-
-// What an element does after `spot`, within the innermost open block.
-fn moves(element: Element, spot: Spot, top: Option<Opened>) -> Move<Spot, Opened>
-    ensures { result ≡ moves element spot top }
-{
-    match (element, top) {
-        (Element::Activity(id), _) => Move::Stay(spot.past_activity(id)),
-        (Element::AndSplit, _) => Move::Open(spot.enter(), Opened::at(spot, true)),
-        (Element::XorSplit(id), _) => {
-            let decided = spot.past_node(id);
-            Move::Open(decided.enter(), Opened::at(decided, false))
-        }
-        (Element::LoopStart, _) => Move::Open(spot.enter_loop(), Opened::at(spot, false)),
-        (Element::Bar, Some(block)) => Move::Turn(
-            spot.turn(block.parallel),
-            Opened {
-                gathered: block.gathered.union(spot.seen),
-                ..block
-            },
-        ),
-        (Element::AndJoin | Element::XorJoin, Some(block)) => Move::Close(spot.leave(
-            block.origin,
-            block.gathered,
-        )),
-        (Element::LoopEnd(id), Some(block)) => Move::Close(spot.leave_loop(block.origin, id)),
-        _ => Move::Stay(spot),
-    }
-}
-
-// Goes past an element that stands after `spot`.
-pub(crate) fn pass(blocks: &mut Stack<Opened>, element: Element, spot: Spot) -> Spot
-    requires { length blocks.old < 128 }
-    ensures state { state result blocks.new ≡ step element (state spot blocks.old) }
-    ensures depth { length blocks.new ≤ length blocks.old + 1 }
-{
-    let next = moves(element, spot, blocks.top());
-    blocks.follow(next)
 }

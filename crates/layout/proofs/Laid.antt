@@ -2,13 +2,13 @@
 use Rattle.std.proofs.Common.{◌≡◌, ℕ, ◌<◌, ◌≤◌, Bool, true, false, cond, ltb, List, [], length, get_or, Some, None, Option, sym, refl, subst, arith}
 use Rattle.std.proofs.lemmas.List.{length-replicate}
 use Rattle.std.proofs.lemmas.Bool.{ltb-true, ltb-false}
+use Rattle.bounded.proofs.Replicas.{get_or-replicate_default}
 use Rattle.model.specs.declared.Element.{Element}
 use Rattle.model.specs.Trees.{Seq, nil, flatten}
 use Rattle.layout.specs.declared.Layout.{Layout}
 use Rattle.layout.specs.Pass.{Tables, outside, no_tables, tables_of, LayoutOf, position_at}
 use Rattle.layout.specs.Gaps.{Rest, free, Stands, Positioned, Ended, OfTree}
 use Rattle.layout.proofs.Rests.{rest_all, rest_none}
-use Rattle.layout.proofs.Finds.{none_yet}
 use Rattle.layout.proofs.Walks.{Sofar, Walked, walk}
 
 pub record Laid (xs : List Element) (t : Tables) : Type 0 where
@@ -24,8 +24,8 @@ module _ (xs : List Element) (few : length xs ≤ 128) where
     positions_long = length-replicate 128 outside;
     ends_long = length-replicate {A = Option ℕ} 128 None;
     stood = λ p h. absurd (omega arith);
-    ended = λ s. subst (Sofar xs 0 [] s) (sym (none_yet 128 s)) (λ h b. absurd (omega arith));
-    closing = λ s e at. absurd (let n = none_yet 128 s in let z : ◌≡◌ {A = ℕ} 0 1 = cc in omega arith);
+    ended = λ s. subst (Sofar xs 0 [] s) (sym (get_or-replicate_default 128 s None)) (λ h b. absurd (omega arith));
+    closing = λ s e at. absurd (let n : get_or no_tables.ends s None ≡ None = get_or-replicate_default 128 s None in cc);
   }
 
   done : (s : ℕ) (o : Option ℕ) → Sofar xs (length xs) [] s o → Ended xs s o

@@ -42,6 +42,11 @@ count_more : (b : Branches) → count (more b) ≡ count b + 1
 count_more (last t) = refl
 count_more (bar t b) = let e = count_more b in omega (arith, e)
 
+-- a block has a branch at least
+pub some_branch : (b : Branches) → (k : ℕ) × (count b ≡ k + 1)
+some_branch (last t) = (0, refl)
+some_branch (bar t b) = let r = some_branch b in (r.0 + 1, omega (arith, r.1))
+
 mutual
   pub spell_longer : (t : Seq) (ys : List Element) → length ys ≤ length (spell t ys)
   spell_longer nil ys = omega arith
@@ -66,7 +71,7 @@ module _ {xs : List Element} where
       (subst (λ zs. Gap xs (y ∷ zs) o) e around)
 
   pub gap_bar : (ys : List Element) (h : Position) (s : ℕ) → h.block ≡ Some s → Gap xs (Bar ∷ ys) h → Gap xs ys (turned h)
-  gap_bar ys h s is (free u e) = absurd (let z : ◌≡◌ {A = ℕ} 0 1 = cc in omega arith)
+  gap_bar ys h s is (free u e) = absurd cc
   gap_bar ys h s is (block {o = o} y b n r begins left number around) =
       let e = sym (spell_more b ys) in
       block y (more b) (n + 1) r begins (subst (λ zs. Rest xs r (y ∷ zs)) e left) (count_more b ∙ ap (λ k. k + 1) number)

@@ -10,7 +10,7 @@ use Rattle.stack.specs.declared.moves.Move.TheVariants.{Stay, Turn}
 use Rattle.layout.specs.Pass.{state, Tables, tables, read, noted, written, position, outside, entered, entered_loop, turned}
 use Rattle.layout.specs.Gaps.{Begins, Closes, Rest, Inside, loop_from, Gap, gap_of, Stands, Ends}
 use Rattle.layout.proofs.Rests.{rest_next, rest_here, rest_long, rest_less}
-use Rattle.layout.proofs.Shapes.{spell_longer_branches, gap_item, gap_bar, gap_enter, gap_inside}
+use Rattle.layout.proofs.Shapes.{some_branch, spell_longer_branches, gap_item, gap_bar, gap_enter, gap_inside}
 
 -- s is the start of an open block
 abbrev pub Opened : List ℕ → ℕ → Type 0
@@ -216,10 +216,6 @@ module _ (xs : List Element) (few : length xs ≤ 128) where
           at_end = omega (arith, c);
         };
       }
-
-  some_branch : (b : Branches) → (k : ℕ) × (count b ≡ k + 1)
-  some_branch (last t) = (0, refl)
-  some_branch (bar t b) = let r = some_branch b in (r.0 + 1, omega (arith, r.1))
 
   module _ (Q : Tables → Type 0) where
     mutual

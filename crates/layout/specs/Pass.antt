@@ -5,7 +5,8 @@ use Rattle.model.specs.declared.Element.TheVariants.{Activity, AndSplit, Bar, An
 use Rattle.model.specs.Elements.{node_id}
 use Rattle.stack.specs.declared.moves.Move.{Move}
 use Rattle.stack.specs.declared.moves.Move.TheVariants.{Stay, Open, Turn, Close}
-use Rattle.stack.specs.Items.{head, tail}
+use Rattle.stack.specs.Items.{head}
+use Rattle.stack.specs.Moves.{reached, blocks_after}
 use Rattle.layout.specs.declared.Position.{Position}
 use Rattle.layout.specs.declared.Layout.{Layout}
 
@@ -61,10 +62,7 @@ state h os = record { here = h; outer = os }
 
 -- The gap after a move.
 abbrev pub moved : Move Position Position → List Position → State
-moved (Stay n) os = state n os
-moved (Open n o) os = state n (o ∷ os)
-moved (Turn n o) os = state n (o ∷ tail os)
-moved (Close n) os = state n (tail os)
+moved m os = state (reached m) (blocks_after m os)
 
 -- Before the row.
 abbrev pub start : State

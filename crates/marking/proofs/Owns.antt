@@ -1,5 +1,6 @@
 -- The own signal of a node is that at its place. Assumes nothing.
-use Rattle.std.proofs.Common.{◌≡◌, ℕ, zero, suc, ◌+◌, ◌<◌, Bool, true, false, cond, List, [], ◌∷◌, length, get_or, refl, ap, ◌∙◌, inl, inr, arith}
+use Rattle.std.proofs.Common.{◌≡◌, ℕ, zero, suc, ◌+◌, ◌<◌, Bool, true, false, cond, List, [], ◌∷◌, length, get_or, take, sym, refl, ap, ◌∙◌, inl, inr, arith}
+use Rattle.std.proofs.lemmas.List.{get_or-take}
 use Rattle.std.specs.declared.option.Option.TheVariants as option
 use Rattle.model.specs.declared.Element.{Element}
 use Rattle.model.specs.declared.Element.TheVariants.{AndSplit}
@@ -40,6 +41,12 @@ module _ (gs : List Signal) (id : ℕ) where
 
   pub own_at : (xs : List Element) (p : ℕ) → Unique xs → Finds xs id (option.Some p) → own xs gs 0 id ≡ option.Some (get_or gs p None)
   own_at xs p o f = present xs 0 p o f.0 f.1 ∙ ap (λ n. option.Some (get_or gs n None)) (omega arith)
+
+  -- read where the signals are the front of these
+  pub own_taken : (xs : List Element) (gaps : List Signal) (p : ℕ) → take (length xs + 1) gaps ≡ gs → Unique xs → Finds xs id (option.Some p)
+      → own xs gs 0 id ≡ option.Some (get_or gaps p None)
+  own_taken xs gaps p told o f =
+      own_at xs p o f ∙ ap option.Some (sym (ap (λ hs. get_or hs p None) told) ∙ get_or-take (length xs + 1) gaps p None (omega (arith, f.0)))
 
   pub own_none : (xs : List Element) → Low xs → Finds xs id option.None → own xs gs 0 id ≡ option.None
   own_none xs low f = absent xs 0 (λ a. f (low id a) a)

@@ -3,7 +3,8 @@
 --   signals fs st xs   the signals of the gaps from here on
 -- `OfTree` says that on the row of a tree these are the tree's signals.
 use Rattle.std.specs.Prelude.{◌≡◌, ◌-◌, Bool, true, cond, ◌&&◌, List, [], ◌∷◌, Some, Option, ◌==◌}
-use Rattle.stack.specs.Items.{head, tail}
+use Rattle.stack.specs.Items.{head}
+use Rattle.stack.specs.Moves.{reached, blocks_after}
 use Rattle.model.specs.declared.Element.{Element}
 use Rattle.model.specs.declared.Element.TheVariants.{Activity, AndSplit, Bar, AndJoin, XorSplit, XorJoin, LoopStart, LoopEnd}
 use Rattle.model.specs.declared.Fact.{Fact}
@@ -83,10 +84,7 @@ abbrev pub gap : Signal → List Opened → Gap
 gap g s = record { signal = g; blocks = s }
 
 abbrev pub moved : Move Signal Opened → List Opened → Gap
-moved (Stay g) s = gap g s
-moved (Open g o) s = gap g (o ∷ s)
-moved (Turn g o) s = gap g (o ∷ tail s)
-moved (Close g) s = gap g (tail s)
+moved m s = gap (reached m) (blocks_after m s)
 
 abbrev pub step : List Fact → Element → Gap → Gap
 step fs x st = moved (moves fs x st.signal (head st.blocks)) st.blocks

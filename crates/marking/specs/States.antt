@@ -1,6 +1,9 @@
 -- The states of a row's nodes, and when a case is finished. Assumes nothing.
 --   own xs gs p id         the signal of the gap before the node's element; the row xs stands from place p on
 --   free xs gs fs es id    every sync source of the node is Completed or Skipped
+--   own_in xs fs id        its own signal, under these facts
+--   settled_in xs fs id    it is Completed or Skipped
+--   free_in xs es fs id    every sync source of it is
 --   state_in xs es fs id   the state of the node, if the row has it
 --   finished_in xs fs      the gap behind the row is true
 use Rattle.std.specs.Prelude.{ℕ, ◌+◌, Bool, true, false, cond, not, ◌&&◌, ◌||◌, List, [], ◌∷◌, length, Option, ◌==◌, slice_index_or}
@@ -29,6 +32,18 @@ settled (option.Some g) f = is_false g || is_done f
 abbrev pub free : List Element → List Signal → List Fact → List Edge → ℕ → Bool
 free xs gs fs [] id = true
 free xs gs fs (e ∷ es) id = (not (e.target == id) || settled (own xs gs 0 e.source) (fact_of fs e.source)) && free xs gs fs es id
+
+-- A node's own signal, under the signals that follow from the facts.
+abbrev pub own_in : List Element → List Fact → ℕ → Option Signal
+own_in xs fs id = own xs (signals fs start xs) 0 id
+
+-- Whether a node is Completed or Skipped, under them.
+abbrev pub settled_in : List Element → List Fact → ℕ → Bool
+settled_in xs fs id = settled (own_in xs fs id) (fact_of fs id)
+
+-- Whether every sync source of a node is, under them.
+abbrev pub free_in : List Element → List Edge → List Fact → ℕ → Bool
+free_in xs es fs id = free xs (signals fs start xs) fs es id
 
 abbrev pub with_signal : Option Signal → Fact → Bool → Option State
 with_signal option.None f r = option.None

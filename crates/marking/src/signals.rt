@@ -1,15 +1,15 @@
 // The signal of every gap of a row, in one pass.
-ghost use Rattle.std.specs.Prelude.{◌≡◌, ◌+◌, ◌<◌, ◌≤◌, length, take};
+ghost use Rattle.std.specs.Prelude.{◌≡◌, ◌+◌, ◌≤◌, length, take};
 ghost use Rattle.model.specs.Signals.{is_done, and_joined};
-ghost use Rattle.marking.specs.Machine.{choice_of, chosen, turned, xor_joined, at_bar, at_and_join, at_xor_join, moves, gap, step, start, signals};
+ghost use Rattle.marking.specs.Machine.{choice_of, chosen, turned, xor_joined, moves, start, signals};
 
-use facts::fact_of;
+use facts::Facts;
 use model::{Element, Fact, Signal};
 use stack::{Move, Stack};
 
 // The decided branch of an XOR block, seen from the branch that is being read: none, that many bars
 // ahead (this one at 0), or behind, with the signal that ended it. An `Option` of the last two would be no plainer:
-// `chosen` tells all three apart, `turned` looks for `Ahead` alone, and `xor_joined` for `Behind`.
+// `head` looks for `Ahead` and `Undecided`, `turned` for `Ahead` alone, and `joined` for `Behind`.
 #[derive(Clone, Copy)]
 pub enum Choice {
     Undecided,
@@ -45,124 +45,96 @@ fn after(before: Signal, done: bool) -> Signal
     }
 }
 
-fn choice_of(done: Fact) -> Choice
-    ensures { result ≡ choice_of done }
-{
-    match done {
-        Fact::Decided(branch) => Choice::Ahead(branch),
-        _ => Choice::Undecided,
-    }
-}
+// What the fact of its decision says before the first branch.
+impl From<Fact> for Choice {
+    ghost from_gives = { λ fact choice. choice ≡ choice_of fact };
 
-// The signal at the head of an XOR block's branch.
-fn chosen(skipped: bool, choice: Choice) -> Signal
-    ensures { result ≡ chosen skipped choice }
-{
-    match (choice, skipped) {
-        (Choice::Ahead(0), _) => Signal::True,
-        (Choice::Undecided, false) => Signal::None,
-        _ => Signal::False,
-    }
-}
-
-// The choice at the next branch, where this one ends with `last`.
-fn turned(choice: Choice, last: Signal) -> Choice
-    ensures { result ≡ turned choice last }
-{
-    match choice {
-        Choice::Ahead(0) => Choice::Behind(last),
-        Choice::Ahead(bars) => Choice::Ahead(bars - 1),
-        Choice::Undecided | Choice::Behind(_) => choice,
-    }
-}
-
-// The signal after an XOR join, where the last branch ends with `last`.
-fn xor_joined(skipped: bool, choice: Choice, last: Signal) -> Signal
-    ensures { result ≡ xor_joined skipped choice last }
-{
-    if skipped {
-        return Signal::False;
-    }
-    match turned(choice, last) {
-        Choice::Behind(ended) => ended,
-        _ => Signal::None,
-    }
-}
-
-fn at_bar(signal: Signal, top: Option<Opened>) -> Move<Signal, Opened>
-    ensures { result ≡ at_bar signal top }
-{
-    match top {
-        Some(Opened::And(before, all)) => Move::Turn(
-            before,
-            Opened::And(before, all & (signal == Signal::True)),
-        ),
-        Some(Opened::Xor(skipped, choice)) => {
-            let next = turned(choice, signal);
-            Move::Turn(chosen(skipped, next), Opened::Xor(skipped, next))
+    fn from(fact: Fact) -> Choice {
+        match fact {
+            Fact::Decided(branch) => Choice::Ahead(branch),
+            _ => Choice::Undecided,
         }
-        None => Move::Stay(signal),
     }
 }
 
-fn at_and_join(signal: Signal, top: Option<Opened>) -> Move<Signal, Opened>
-    ensures { result ≡ at_and_join signal top }
-{
-    match top {
-        Some(Opened::And(before, all)) => Move::Close(after(
-            before,
-            all & (signal == Signal::True),
-        )),
-        _ => Move::Stay(signal),
+impl Choice {
+    // The signal at the head of the branch that is read.
+    fn head(self, skipped: bool) -> Signal
+        ensures { result ≡ chosen skipped self }
+    {
+        match (self, skipped) {
+            (Choice::Ahead(0), _) => Signal::True,
+            (Choice::Undecided, false) => Signal::None,
+            _ => Signal::False,
+        }
+    }
+
+    // The choice at the next branch, where this one ends with `last`.
+    fn turned(self, last: Signal) -> Choice
+        ensures { result ≡ turned self last }
+    {
+        match self {
+            Choice::Ahead(0) => Choice::Behind(last),
+            Choice::Ahead(bars) => Choice::Ahead(bars - 1),
+            Choice::Undecided | Choice::Behind(_) => self,
+        }
+    }
+
+    // The signal after the block's join, where the last branch ends with `last`.
+    fn joined(self, skipped: bool, last: Signal) -> Signal
+        ensures { result ≡ xor_joined skipped self last }
+    {
+        if skipped {
+            return Signal::False;
+        }
+        match self.turned(last) {
+            Choice::Behind(ended) => ended,
+            _ => Signal::None,
+        }
     }
 }
 
-fn at_xor_join(signal: Signal, top: Option<Opened>) -> Move<Signal, Opened>
-    ensures { result ≡ at_xor_join signal top }
-{
-    match top {
-        Some(Opened::Xor(skipped, choice)) => Move::Close(xor_joined(skipped, choice, signal)),
-        _ => Move::Stay(signal),
-    }
-}
-
+// What an element does behind `signal`, within the innermost open block. A bar or a join does nothing where no block of
+// its kind is open.
 fn moves(
-    facts: &[Fact],
+    facts: &Facts,
     element: Element,
     signal: Signal,
     top: Option<Opened>,
 ) -> Move<Signal, Opened>
     ensures { result ≡ moves facts.now element signal top }
 {
-    match element {
-        Element::Activity(id) | Element::LoopEnd(id) => {
-            Move::Stay(after(signal, is_done(fact_of(facts, id))))
+    match (element, top) {
+        (Element::Activity(id) | Element::LoopEnd(id), _) => {
+            Move::Stay(after(signal, is_done(facts.of(id))))
         }
-        Element::LoopStart => Move::Stay(signal),
-        Element::AndSplit => Move::Open(signal, Opened::And(signal, true)),
-        Element::XorSplit(id) => {
+        (Element::AndSplit, _) => Move::Open(signal, Opened::And(signal, true)),
+        (Element::XorSplit(id), _) => {
             let skipped = signal == Signal::False;
-            let choice = choice_of(fact_of(facts, id));
-            Move::Open(chosen(skipped, choice), Opened::Xor(skipped, choice))
+            let choice = Choice::from(facts.of(id));
+            Move::Open(choice.head(skipped), Opened::Xor(skipped, choice))
         }
-        Element::Bar => at_bar(signal, top),
-        Element::AndJoin => at_and_join(signal, top),
-        Element::XorJoin => at_xor_join(signal, top),
+        (Element::Bar, Some(Opened::And(before, all))) => {
+            let all = all & (signal == Signal::True);
+            Move::Turn(before, Opened::And(before, all))
+        }
+        (Element::Bar, Some(Opened::Xor(skipped, choice))) => {
+            let next = choice.turned(signal);
+            Move::Turn(next.head(skipped), Opened::Xor(skipped, next))
+        }
+        (Element::AndJoin, Some(Opened::And(before, all))) => {
+            Move::Close(after(before, all & (signal == Signal::True)))
+        }
+        (Element::XorJoin, Some(Opened::Xor(skipped, choice))) => {
+            Move::Close(choice.joined(skipped, signal))
+        }
+        _ => Move::Stay(signal),
     }
 }
 
-// Goes past an element that stands behind `signal`, and answers the signal behind it.
-fn pass(blocks: &mut Stack<Opened>, facts: &[Fact], element: Element, signal: Signal) -> Signal
-    requires { length blocks.old < 128 }
-    ensures gap { gap result blocks.new ≡ step facts.now element (gap signal blocks.old) }
-    ensures depth { length blocks.new ≤ length blocks.old + 1 }
-{
-    let next = moves(facts, element, signal, blocks.top());
-    blocks.follow(next)
-}
-
 // The signals of the gaps of the row, whose nodes have these facts; nothing is told behind them.
-pub(crate) fn mark(row: &[Element], facts: &[Fact]) -> [Signal; 129]
+#[tactic(auto, using(crate::proofs::GapSteps::gap_more, crate::proofs::GapSteps::gap_last))]
+pub(crate) fn mark(row: &[Element], facts: &Facts) -> [Signal; 129]
     requires { length row.now ≤ 128 }
     ensures gaps { take (length row.now + 1) result ≡ signals facts.now start row.now }
     ensures long { length result ≡ 129 }
@@ -171,8 +143,10 @@ pub(crate) fn mark(row: &[Element], facts: &[Fact]) -> [Signal; 129]
     let mut signal = Signal::True;
     let mut blocks = Stack::new(Opened::And(Signal::None, false));
     for (i, element) in row.iter().enumerate() {
+        // by index: after an adapter of `iter_mut` nothing is known of what was written
         gaps[i] = signal;
-        signal = pass(&mut blocks, facts, *element, signal);
+        let next = moves(facts, *element, signal, blocks.top());
+        signal = blocks.follow(next);
     }
     gaps[row.len()] = signal;
     gaps

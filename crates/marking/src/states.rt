@@ -1,21 +1,21 @@
 // The states of a schema's nodes, from the signals of its gaps.
 ghost use Rattle.std.specs.Prelude.{◌≡◌, ◌+◌, length, take};
-ghost use Rattle.model.specs.Signals.{fact_of};
 ghost use Rattle.model.specs.States.{state_of};
 ghost use Rattle.schema.specs.Schemas.{parts};
 ghost use Rattle.marking.specs.Machine.{signals, start};
-ghost use Rattle.marking.specs.States.{own, settled, free, state_in, finished_in};
+ghost use Rattle.marking.specs.States.{own_in, settled, settled_in, free_in, state_in, finished_in};
 
 use crate::signals::{is_done, mark};
-use facts::fact_of;
+use facts::Facts;
 use model::{Fact, Signal, State};
 use schema::schema::Schema;
 
-// A schema, the facts of its nodes, and the signals of its gaps under them, in an array, since marking takes no memory.
+// A schema, the facts of its nodes, and the signals of its gaps under them, in an array, since marking takes
+// no memory, and no `ArrayVec`, since that asks a default of signals.
 #[derive(Drop)]
 pub(crate) struct Signals<'a> {
     schema: &'a Schema,
-    facts: &'a [Fact],
+    facts: &'a Facts,
     gaps: [Signal; 129],
     ghost long: { length gaps ≡ 129 },
     ghost told: { take (length (parts schema.now).row + 1) gaps ≡ signals facts.now start (parts schema.now).row },
@@ -41,7 +41,7 @@ fn settled(signal: Option<Signal>, fact: Fact) -> bool
 }
 
 impl<'a> Signals<'a> {
-    pub(crate) fn of(schema: &'a Schema, facts: &'a [Fact]) -> Signals<'a>
+    pub(crate) fn of(schema: &'a Schema, facts: &'a Facts) -> Signals<'a>
         ensures schema { result.schema.now ≡ schema.now }
         ensures facts { result.facts.now ≡ facts.now }
     {
@@ -53,8 +53,9 @@ impl<'a> Signals<'a> {
     }
 
     // The signal of the gap before the node's element, if the schema has the node.
+    #[tactic(auto, using(crate::proofs::Owns::own_taken, crate::proofs::Owns::own_none, schema::proofs::Checked::checked_fine))]
     fn own(&self, id: u8) -> Option<Signal>
-        ensures { result ≡ own (parts self.now.schema.now).row (signals self.now.facts.now start (parts self.now.schema.now).row) 0 id }
+        ensures { result ≡ own_in (parts self.now.schema.now).row self.now.facts.now id }
     {
         let place = self.schema.place(id)?;
         Some(self.gaps[place])
@@ -62,14 +63,14 @@ impl<'a> Signals<'a> {
 
     // Whether a node is completed or skipped.
     fn is_settled(&self, id: u8) -> bool
-        ensures { result ≡ settled (own (parts self.now.schema.now).row (signals self.now.facts.now start (parts self.now.schema.now).row) 0 id) (fact_of self.now.facts.now id) }
+        ensures { result ≡ settled_in (parts self.now.schema.now).row self.now.facts.now id }
     {
-        settled(self.own(id), fact_of(self.facts, id))
+        settled(self.own(id), self.facts.of(id))
     }
 
     // Whether every sync source of a node is completed or skipped.
     fn is_free(&self, id: u8) -> bool
-        ensures { result ≡ free (parts self.now.schema.now).row (signals self.now.facts.now start (parts self.now.schema.now).row) self.now.facts.now (parts self.now.schema.now).edges id }
+        ensures { result ≡ free_in (parts self.now.schema.now).row (parts self.now.schema.now).edges self.now.facts.now id }
     {
         self.schema
             .edges()
@@ -82,7 +83,7 @@ impl<'a> Signals<'a> {
         ensures { result ≡ state_in (parts self.now.schema.now).row (parts self.now.schema.now).edges self.now.facts.now id }
     {
         let signal = self.own(id)?;
-        Some(state_of(signal, fact_of(self.facts, id), self.is_free(id)))
+        Some(state_of(signal, self.facts.of(id), self.is_free(id)))
     }
 
     // Whether the case is finished: the gap behind the row is true.

@@ -20,8 +20,11 @@ struct Line {
 
 impl fmt::Display for Line {
     fn fmt<W: fmt::Write>(&self, f: &mut fmt::Formatter<W>) -> fmt::Result {
-        let indent = 2 * usize::from(self.indent);
-        write!(f, "{:>5} {:indent$}", self.place, "")?;
+        write!(f, "{:>5} ", self.place)?;
+        // by a loop: an empty text padded to the width makes all that `inspect` does a fifteenth more
+        for _ in 0..self.indent {
+            write!(f, "  ")?;
+        }
         match self.element {
             Element::Activity(id) => writeln!(f, "activity {id}"),
             Element::AndSplit => writeln!(f, "AND split"),

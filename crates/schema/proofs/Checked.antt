@@ -1,5 +1,6 @@
 -- What a schema's own fields tell of its row. Assumes nothing.
-use Rattle.std.proofs.Common.{◌≡◌, ℕ, Bool, true, false, not, ◌&&◌, List, [], ◌∷◌, is_some, Some, None, Option, refl, ap, inl, inr, arith}
+use Rattle.std.proofs.Common.{◌≡◌, ℕ, true, false, List, [], ◌∷◌, is_some, Some, None, Option, refl, ap, inl, inr, arith}
+use Rattle.std.proofs.lemmas.Bool.{and_parts, not-true}
 use mathlib.Core.Logic.{∥∥₁_elim}
 use base.Stored.{Coded, Coded-set, coded_ℕ, coded_list, coded_via, coded×}
 use Rattle.ids.specs.declared.IdSet.{IdSet}
@@ -57,21 +58,13 @@ laid xs l h = record {
   ends = ∥∥₁_elim h (Coded-set (coded_list coded_option) _ _) (λ is. is.ends);
 }
 
-both : (a b : Bool) → (a && b) ≡ true → (a ≡ true) × (b ≡ true)
-both true b e = (refl, e)
-both false b e = absurd (let z : ◌≡◌ {A = ℕ} 0 1 = cc in omega arith)
-
-not_true : (b : Bool) → not b ≡ true → b ≡ false
-not_true true e = absurd (let z : ◌≡◌ {A = ℕ} 0 1 = cc in omega arith)
-not_true false e = refl
-
 pub distinct_fine : (xs : List Element) → distinct xs ≡ true → Fine xs
 distinct_fine [] e = (tt, λ u a. elim a [ ])
 distinct_fine (x ∷ xs) e =
-    let h = both _ _ e in
-    let k = both _ _ h.0 in
+    let h = and_parts _ _ e in
+    let k = and_parts _ _ h.0 in
     let f = distinct_fine xs h.1 in
-    ((used_false xs x (not_true _ k.1), f.0), low k.0 f.1)
+    ((used_false xs x (not-true _ k.1), f.0), low k.0 f.1)
   where
     low : low_id (node_id x) ≡ true → Low xs → Low (x ∷ xs)
     low e l u (inl b) = bears_low x e u b
@@ -79,10 +72,10 @@ distinct_fine (x ∷ xs) e =
 
 module _ (row : List Element) (es : List Edge) (e : passes row es ≡ true) where
   pub checked_fine : Fine row
-  checked_fine = distinct_fine row (both _ _ e).0
+  checked_fine = distinct_fine row (and_parts _ _ e).0
 
   pub checked_nested : Nested row
-  checked_nested = tells_ok row (none (fault [] 0 row) (not_true _ (both _ _ (both _ _ e).1).0))
+  checked_nested = tells_ok row (none (fault [] 0 row) (not-true _ (and_parts _ _ (and_parts _ _ e).1).0))
     where
       none : (o : Option ℕ) → is_some o ≡ false → o ≡ None
       none None q = refl
@@ -92,4 +85,4 @@ module _ (row : List Element) (es : List Edge) (e : passes row es ≡ true) wher
 pub schema_checked : (s : Schema) → Admitted (parts s)
 schema_checked s =
     let l = laid _ s.layout s.laid in
-    record { few = omega (arith, s.layout.few, l.len); few_edges = omega (arith, s.edges.few, s.edges.items.ok.0); passed = s.passed }
+    record { few = omega (arith, s.layout.few, l.len); few_edges = s.few_edges; passed = s.passed }

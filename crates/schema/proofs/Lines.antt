@@ -1,6 +1,7 @@
 -- From a line's decoding to the answer. Assumes nothing.
-use Rattle.std.proofs.Common.{◌≡◌, ℕ, Bool, true, false, cond, ◌||◌, eqb, ltb, leb, List, length, Some, None, Err, Option, sym, refl, ap, arith}
+use Rattle.std.proofs.Common.{◌≡◌, ℕ, Bool, true, false, cond, ◌||◌, eqb, ltb, leb, List, length, None, Err, Option, sym, refl, ap, arith}
 use Rattle.std.proofs.lemmas.Bool.Decides.{nat_tests}
+use Rattle.record.proofs.Inverses.{never}
 use Rattle.record.specs.Hex.{spelled}
 use Rattle.record.specs.Lines.{Short, Overlong, held_of, whole_line}
 use Rattle.model.specs.declared.refusal.SchemaRefusal.TheVariants as refusal
@@ -12,9 +13,6 @@ pub of_decoded : (line : List ℕ) (o : Option (List ℕ)) → o ≡ decoded lin
 of_decoded line o e = ap (λ d. by_record (read_decoded d)) e
 
 -- what a buffer holds of a line tells the answer
-some_none : {P : Type 0} (cs : List ℕ) (o : Option (List ℕ)) → o ≡ Some cs → o ≡ None → P
-some_none cs o p q = absurd (let z : ◌≡◌ {A = ℕ} 0 1 = cc in omega arith)
-
 pub part_held : (cs : List ℕ) → None ≡ whole_line (held_of cs) → Err refusal.Line ≡ schema_read cs
 part_held cs e = of_decoded cs None (sym (go (leb (length cs) 1024) refl e))
   where
@@ -26,5 +24,5 @@ part_held cs e = of_decoded cs None (sym (go (leb (length cs) 1024) refl e))
     above h = grind (arith, nat_tests)
 
     go : (b : Bool) → leb (length cs) 1024 ≡ b → None ≡ whole_line (cond b (Short cs) Overlong) → decoded cs ≡ None
-    go true h e = some_none cs (Some cs) refl (sym e)
+    go true h e = never e
     go false h e = long (eqb (length cs) 0) (above h)

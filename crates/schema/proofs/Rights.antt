@@ -1,5 +1,5 @@
 -- The answer to a line is the one that the rules give. Assumes nothing.
-use Rattle.std.proofs.Common.{◌≡◌, ℕ, Bool, true, false, cond, List, [], length, Some, None, Ok, Err, Decides, Option, Result, refl, inl, inr, arith}
+use Rattle.std.proofs.Common.{◌≡◌, ℕ, Bool, true, false, cond, List, [], length, Some, None, Ok, Err, Decides, Option, Result, sym, refl, ◌∙◌, inl, inr}
 use Rattle.std.proofs.lemmas.Bool.Decides.{Decides-ltb, Decides-or, not_from_Decides}
 use Rattle.model.specs.declared.Element.{Element}
 use Rattle.model.specs.declared.Edge.{Edge}
@@ -11,6 +11,7 @@ use Rattle.blocks.proofs.RowsOfTrees.{tells_ok}
 use Rattle.edges.specs.Verdicts.{edges_verdict}
 use Rattle.edges.proofs.OrderTold.{tells, leaves}
 use Rattle.record.specs.SchemaRecords.{RawSchema, schema_in}
+use Rattle.record.proofs.Inverses.{never}
 use Rattle.record.proofs.Writings.{reading_inverts_writing}
 use Rattle.schema.specs.Reading.{row_read}
 use Rattle.schema.specs.Checks.{over, edges_of, by_edges, by_blocks, by_row, schema_checked, by_record, schema_read}
@@ -61,9 +62,6 @@ module _ (raw : RawSchema) where
 pub read_rightly : (line : List ℕ) → ReadRightly line (schema_read line)
 read_rightly line = go (schema_in line) refl
   where
-    never : {P : Type 0} (raw : RawSchema) (o : Option RawSchema) → o ≡ None → o ≡ Some raw → P
-    never raw o p q = absurd (let z : ◌≡◌ {A = ℕ} 0 1 = cc in omega arith)
-
     go : (o : Option RawSchema) → schema_in line ≡ o → ReadRightly line (by_record o)
-    go None e = inl (λ raw h. never raw (schema_in line) e ((reading_inverts_writing line raw).1 h), refl)
+    go None e = inl (λ raw h. never (sym e ∙ (reading_inverts_writing line raw).1 h), refl)
     go (Some raw) e = inr (raw, (reading_inverts_writing line raw).0 e, rightly raw)

@@ -1,12 +1,15 @@
 -- One element more of a row that is read. Assumes nothing.
-use Rattle.std.proofs.Common.{◌≡◌, ℕ, ◌+◌, ◌<◌, Bool, true, false, cond, ◌||◌, List, [], ◌∷◌, ◌++◌, length, get_or, drop, Some, None, Ok, Err, Option, Result, sym, refl, ap, ◌∙◌, arith}
+use Rattle.std.proofs.Common.{◌≡◌, ℕ, ◌+◌, ◌<◌, Bool, true, false, cond, ◌||◌, List, [], ◌∷◌, ◌++◌, length, get_or, drop, Some, None, Ok, Err, Option, Result, sym, refl, ap, ◌∙◌}
+use Rattle.std.proofs.Math.Bool.{or-false}
 use Rattle.std.proofs.lemmas.List.{at_drop_more}
+use Rattle.std.proofs.lemmas.List.Recursion.{or_push}
 use Rattle.ids.specs.declared.IdSet.{IdSet}
 use Rattle.ids.specs.Sets.{has, is_id, only, with_id}
 use Rattle.ids.proofs.Laws.{has_union, has_only}
 use Rattle.model.specs.declared.Element.{Element}
 use Rattle.model.specs.Elements.{node_id, bytes_read, LowId}
 use Rattle.model.proofs.Bytes.{read_is}
+use Rattle.record.proofs.Inverses.{never}
 use Rattle.schema.specs.Reading.{among, used, row_taken, row_read}
 use Rattle.schema.specs.Seen.{seen_before, unseen}
 
@@ -15,37 +18,21 @@ abbrev pub Seen : IdSet → List Element → Type 0
 Seen seen row = (u : ℕ) → has seen u ≡ among row u
 
 among_last : (xs : List Element) (x : Element) (u : ℕ) → among (xs ++ x ∷ []) u ≡ (among xs u || is_id (node_id x) u)
-among_last [] x u = or_false (is_id (node_id x) u)
-  where
-    or_false : (b : Bool) → (b || false) ≡ b
-    or_false true = refl
-    or_false false = refl
-among_last (y ∷ ys) x u = ap (λ b. is_id (node_id y) u || b) (among_last ys x u) ∙ assoc (is_id (node_id y) u) (among ys u) (is_id (node_id x) u)
-  where
-    assoc : (p q r : Bool) → (p || (q || r)) ≡ ((p || q) || r)
-    assoc true q r = refl
-    assoc false q r = refl
+among_last xs x u = or_push (λ ys. among ys u) (λ y. is_id (node_id y) u) refl (λ y ys. refl) xs x
 
 same_used : (seen : IdSet) (row : List Element) → Seen seen row → (o : Option ℕ) → used row o ≡ seen_before seen o
 same_used seen row s None = refl
 same_used seen row s (Some i) = sym (s i)
 
 seen_more : (seen : IdSet) (row : List Element) → Seen seen row → (o : Option ℕ) → LowId o → (u : ℕ) → has (with_id seen o) u ≡ (among row u || is_id o u)
-seen_more seen row s None low u = s u ∙ or_false (among row u)
-  where
-    or_false : (b : Bool) → b ≡ (b || false)
-    or_false true = refl
-    or_false false = refl
+seen_more seen row s None low u = s u ∙ sym (or-false (among row u))
 seen_more seen row s (Some i) low u =
     has_union seen (only i) u ∙ ap (λ b. b || has (only i) u) (s u) ∙ ap (λ b. among row u || b) (has_only i u low)
-
-never : {P : Type 0} (x : Element) → ◌≡◌ {A = Option Element} None (Some x) → P
-never x e = absurd (let z : ◌≡◌ {A = ℕ} 0 1 = cc in omega arith)
 
 module _ (seen : IdSet) (row : List Element) (s : Seen seen row) (p : ℕ) (rest : List Element → Result (List Element) ℕ) where
   fault_by : (b : Bool) (y : Element) → cond b None (Some y) ≡ None → cond b (Err p) (rest (row ++ y ∷ [])) ≡ Err p
   fault_by true y e = refl
-  fault_by false y e = never y (sym e)
+  fault_by false y e = never (sym e)
 
   fault_at : (o : Option Element) → None ≡ unseen seen o → row_taken row p o rest ≡ Err p
   fault_at None e = refl
@@ -53,11 +40,11 @@ module _ (seen : IdSet) (row : List Element) (s : Seen seen row) (p : ℕ) (rest
       ap (λ b. cond b (Err p) (rest (row ++ y ∷ []))) (same_used seen row s (node_id y)) ∙ fault_by (seen_before seen (node_id y)) y (sym e)
 
   taken_by : (b : Bool) (y x : Element) → cond b None (Some y) ≡ Some x → (cond b (Err p) (rest (row ++ y ∷ [])) ≡ rest (row ++ x ∷ [])) × (y ≡ x)
-  taken_by true y x e = never x e
+  taken_by true y x e = never e
   taken_by false y x e = let q : y ≡ x = cc in (ap (λ z. rest (row ++ z ∷ [])) q, q)
 
   taken_at : (o : Option Element) (x : Element) → Some x ≡ unseen seen o → (row_taken row p o rest ≡ rest (row ++ x ∷ [])) × (o ≡ Some x)
-  taken_at None x e = never x (sym e)
+  taken_at None x e = never (sym e)
   taken_at (Some y) x e =
       let t = taken_by (seen_before seen (node_id y)) y x (sym e) in
       (ap (λ b. cond b (Err p) (rest (row ++ y ∷ []))) (same_used seen row s (node_id y)) ∙ t.0, ap (λ z. Some z) t.1)

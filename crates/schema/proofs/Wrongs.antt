@@ -8,6 +8,7 @@ use Rattle.model.specs.declared.Element.TheVariants.{Activity, AndSplit, Bar, An
 use Rattle.model.specs.Elements.{node_id, bytes_read, BytesOf, LowId}
 use Rattle.model.specs.Rows.{Bears, Among, Unique, Low}
 use Rattle.model.proofs.Bytes.{read_is, is_read}
+use Rattle.record.proofs.Inverses.{never}
 use Rattle.ids.specs.Sets.{is_id}
 use Rattle.schema.specs.Reading.{among, used, row_taken, row_read}
 use Rattle.schema.specs.Checks.{low_id, distinct}
@@ -99,9 +100,6 @@ abbrev ToldFrom : List (ℕ × ℕ) → List (ℕ × ℕ) → Result (List Eleme
 ToldFrom front bs (Ok row) = Spells (front ++ bs) row × Fine row
 ToldFrom front bs (Err p) = FirstWrong (front ++ bs) p
 
-none_some : {P : Type 0} (x : Element) (o : Option Element) → o ≡ None → o ≡ Some x → P
-none_some x o p q = absurd (let z : ◌≡◌ {A = ℕ} 0 1 = cc in omega arith)
-
 told_from : (bs front : List (ℕ × ℕ)) (row : List Element) (p : ℕ) → length front ≡ p → Spells front row → Fine row → ToldFrom front bs (row_read row p bs)
 told_from [] front row p n s f = (subst (λ cs. Spells cs row) (sym (append-nil front)) s, f)
 told_from (b ∷ bs) front row p n s f = at (bytes_read b.0 b.1) refl (λ x. told_from bs (front ++ b ∷ []) (row ++ x ∷ []) (p + 1))
@@ -125,7 +123,7 @@ told_from (b ∷ bs) front row p n s f = at (bytes_read b.0 b.1) refl (λ x. tol
     at : (o : Option Element) → bytes_read b.0 b.1 ≡ o
         → ((x : Element) → length (front ++ b ∷ []) ≡ p + 1 → Spells (front ++ b ∷ []) (row ++ x ∷ []) → Fine (row ++ x ∷ []) → ToldFrom (front ++ b ∷ []) bs (row_read (row ++ x ∷ []) (p + 1) bs))
         → ToldFrom front (b ∷ bs) (row_taken row p o (λ r. row_read r (p + 1) bs))
-    at None is more = wrong_here (inl (λ x h. none_some x (bytes_read b.0 b.1) is (is_read b.0 b.1 x h)))
+    at None is more = wrong_here (inl (λ x h. never (sym is ∙ is_read b.0 b.1 x h)))
     at (Some x) is more = next x (used row (node_id x)) is refl (more x)
 
 pub row_told : (bs : List (ℕ × ℕ)) → ToldFrom [] bs (row_read [] 0 bs)

@@ -5,7 +5,8 @@ ghost use Rattle.model.specs.declared.refusal.SchemaRefusal.TheVariants.{Element
 use model::refusal::SchemaRefusal;
 use std::marker::Model;
 
-// Its place in the record.
+// Its place in the record. A type beside `BadBlock`, since the two become different refusals: one type with a mark of
+// which it is would be no plainer.
 #[derive(Clone, Copy, PartialEq, Eq, Debug)]
 pub(crate) struct BadElement {
     pub(crate) place: usize,

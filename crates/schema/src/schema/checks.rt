@@ -2,8 +2,7 @@
 ghost use Rattle.std.specs.Prelude.{◌≡◌, ℕ, true, false, List, [], is_some};
 ghost use Rattle.blocks.specs.Blocks.{fault};
 ghost use Rattle.edges.specs.Verdicts.{edges_verdict};
-ghost use Rattle.bounded.specs.Lists.{items};
-ghost use Rattle.record.specs.Lines.{held, held_of};
+ghost use Rattle.record.specs.Lines.{held_of};
 ghost use Rattle.record.specs.Readings.{raw};
 ghost use Rattle.schema.specs.Checks.{distinct, by_blocks, by_edges, over, schema_checked, schema_read};
 ghost use Rattle.schema.specs.Schemas.{shown};
@@ -22,9 +21,9 @@ use record::{LineBuffer, Record, SchemaRecord, pairs};
 // A row of whole blocks: the sync edges are checked. Version, row and edges go on from check to check and end in the
 // schema; a struct round them would only be taken apart there.
 fn check_edges(version: u16, row: Row, edges: EdgeList) -> Result<Schema, SchemaRefusal>
-    requires ids { distinct (items row) ≡ true }
-    requires nested { is_some (fault [] 0 (items row)) ≡ false }
-    ensures { shown result ≡ by_edges version (items row) (items edges) (edges_verdict (items row) (items edges)) }
+    requires ids { distinct row ≡ true }
+    requires nested { is_some (fault [] 0 row) ≡ false }
+    ensures { shown result ≡ by_edges version row edges (edges_verdict row edges) }
 {
     let order = Order::of(&row);
     let layout = Layout::of(&row);
@@ -40,8 +39,8 @@ fn check_edges(version: u16, row: Row, edges: EdgeList) -> Result<Schema, Schema
 
 // A row with its ids in order: its blocks are checked, then the edges.
 fn check_parts(version: u16, row: Row, edges: EdgeList) -> Result<Schema, SchemaRefusal>
-    requires { distinct (items row) ≡ true }
-    ensures { shown result ≡ by_blocks version (items row) (items edges) (fault [] 0 (items row)) }
+    requires { distinct row ≡ true }
+    ensures { shown result ≡ by_blocks version row edges (fault [] 0 row) }
 {
     check_blocks(row.as_slice())?;
     check_edges(version, row, edges)
@@ -54,17 +53,14 @@ fn is_over(given: SchemaRecord<'_>) -> bool
     pairs(given.elements).len() > 128 || pairs(given.edges).len() > 32
 }
 
-// The schema of a record, or the first reason against it. Row and list are where it is built up.
-fn check_record(row: Row, edges: EdgeList, given: SchemaRecord<'_>) -> Result<Schema, SchemaRefusal>
-    requires row { items row ≡ [] }
-    requires edges { items edges ≡ [] }
+// The schema of a record, or the first reason against it. It is built up in the space.
+fn check_record(space: Space, given: SchemaRecord<'_>) -> Result<Schema, SchemaRefusal>
     ensures { shown result ≡ schema_checked (raw given.entry) }
 {
     if is_over(given) {
         return Err(SchemaRefusal::Size);
     }
-    let mut row = row;
-    let mut edges = edges;
+    let (mut row, mut edges) = space.into_parts();
     read_row(&mut row, given.elements)?;
     read_edges(&mut edges, given.edges);
     check_parts(given.version, row, edges)
@@ -76,8 +72,7 @@ impl Schema {
         ensures value { shown result ≡ schema_checked (raw given.entry) }
         ensures rightly { Rightly (raw given.entry) (shown result) }
     {
-        let (row, edges) = space.into_parts();
-        check_record(row, edges, given)
+        check_record(space, given)
     }
 
     // The schema that a line says, or why it is refused.
@@ -94,7 +89,7 @@ impl Schema {
     // The same for a line that came in through a buffer, which holds no more of it than a line may have: the
     // answer is that to the whole line.
     pub fn read_buffered(space: Space, line: &LineBuffer) -> Result<Schema, SchemaRefusal>
-        ensures { (cs : List ℕ) → held line.now ≡ held_of cs → shown result ≡ schema_read cs }
+        ensures { (cs : List ℕ) → line.now ≡ held_of cs → shown result ≡ schema_read cs }
     {
         let characters = line.line().ok_or(SchemaRefusal::Line)?;
         Schema::read(space, characters)

@@ -6,4 +6,4 @@ use Rattle.facts.proofs.Facts.forget.Given as goal
 
 abbrev pub invariant-loop-id : goal.invariant-loop-id
 invariant-loop-id l = (length l.fact-items ≡ 64)
-    × ((id : ℕ) → fact_of l.fact-items id ≡ cond (ltb id l.id && has l.ids id) Nothing (fact_of l.fn.self.values id))
+    × ((id : ℕ) → fact_of l.fact-items id ≡ cond (ltb id l.id && has l.ids id) Nothing (fact_of l.fn.self id))

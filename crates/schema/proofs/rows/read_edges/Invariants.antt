@@ -1,8 +1,7 @@
 use Rattle.std.proofs.Common.{◌≡◌, map, take}
-use Rattle.bounded.specs.Lists.{items}
 use Rattle.record.specs.Pairs.{pairs}
 use Rattle.schema.specs.Reading.{edge_of}
 use Rattle.schema.proofs.rows.read_edges.Given as goal
 
 abbrev pub invariant-loop-source : goal.invariant-loop-source
-invariant-loop-source l = items l.list ≡ map edge_of (take l.source-index (pairs l.edges))
+invariant-loop-source l = l.list ≡ map edge_of (take l.source-index (pairs l.edges))

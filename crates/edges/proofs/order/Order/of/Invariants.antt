@@ -1,11 +1,10 @@
 use Rattle.std.proofs.Common.{◌≡◌, ◌≤◌, length, drop}
 use Rattle.edges.specs.Places.{befores, partners, noted, state, preceding, joinable}
-use Rattle.bounded.specs.Lists.{items}
 use Rattle.edges.proofs.order.Order.of.Given as goal
 
 abbrev pub invariant-loop-element : goal.invariant-loop-element
 invariant-loop-element l =
-    let rest = drop l.element-index (items l.row) in
+    let rest = drop l.element-index l.row in
     (length l.blocks ≤ l.element-index)
-    × (befores (items l.row) ≡ noted preceding l.order.before (state l.spot l.blocks) rest)
-    × (partners (items l.row) ≡ noted joinable l.order.partners (state l.spot l.blocks) rest)
+    × (befores l.row ≡ noted preceding l.order.before (state l.spot l.blocks) rest)
+    × (partners l.row ≡ noted joinable l.order.partners (state l.spot l.blocks) rest)

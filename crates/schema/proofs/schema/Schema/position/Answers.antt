@@ -1,5 +1,4 @@
 use Rattle.std.proofs.Common.{cond, ltb, length, get_or, Some, None, ap, ◌∙◌}
-use Rattle.bounded.specs.Lists.{items}
 use Rattle.layout.specs.Pass.{outside}
 use Rattle.schema.proofs.Checked.{laid, checked_nested}
 use Rattle.schema.proofs.schema.Schema.position.Goals as goal
@@ -14,6 +13,6 @@ returns c =
       value =
           c.position.ensures.value
           ∙ ap (λ len. cond (ltb p len) (Some (get_or s.layout.positions p outside)) None) l.len
-          ∙ ap (λ table. cond (ltb p (length (items s.row))) (Some (get_or table p outside)) None) l.positions;
+          ∙ ap (λ table. cond (ltb p (length s.row)) (Some (get_or table p outside)) None) l.positions;
       tree = c.position.ensures.tree _ l n.0 n.2;
     }
