@@ -1,5 +1,5 @@
 -- A sequence ends false exactly if it begins false. Assumes nothing.
-use Rattle.std.proofs.Common.{◌≡◌, ℕ, ◌+◌, Bool, true, false, cond, List, Some, Option, refl, ap, ◌∙◌, arith}
+use Rattle.std.proofs.Common.{◌≡◌, ℕ, ◌+◌, Bool, true, false, cond, List, Some, Option, refl, ap, ◌∙◌}
 use Rattle.model.specs.declared.Fact.{Fact}
 use Rattle.model.specs.declared.Signal.{Signal}
 use Rattle.model.specs.declared.Signal.TheVariants.{True, False, None}
@@ -17,7 +17,7 @@ either true = refl
 either false = refl
 
 head_decided : (k : Bool) (o : Option ℕ) (i : ℕ) → is_branch o i ≡ true → is_false (head_of k o i) ≡ false
-head_decided k Option.None i e = absurd (let z : ◌≡◌ {A = ℕ} 0 1 = cc in omega arith)
+head_decided k Option.None i e = absurd cc
 head_decided k (Some d) i e = ap (λ b. is_false (cond b True False)) e
 
 -- the decided branch, or what the others give

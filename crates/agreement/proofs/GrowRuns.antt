@@ -1,8 +1,9 @@
 -- Along a run nodes with facts have true signals, and facts and signals only grow. Assumes nothing.
-use Rattle.std.proofs.Common.{◌≡◌, ℕ, zero, suc, ◌<◌, Bool, true, ◌⊎◌, List, [], ◌∷◌, length, get_or, set, replicate, Option, sym, refl, ap, ◌∙◌, subst, inl, inr, ⊎_elim, arith, length-set}
+use Rattle.std.proofs.Common.{◌≡◌, ℕ, ◌<◌, Bool, true, ◌⊎◌, List, [], ◌∷◌, length, set, Option, sym, refl, ap, ◌∙◌, subst, inl, inr, ⊎_elim, arith, length-set}
 use Rattle.std.specs.declared.option.Option.TheVariants as option
 use Rattle.std.proofs.lemmas.List.{get_or-set_same, get_or-set_other, length-replicate}
 use Rattle.std.proofs.lemmas.Bool.{cases_eq, false≢true}
+use Rattle.bounded.proofs.Replicas.{get_or-replicate_default}
 use Rattle.model.specs.declared.Element.{Element}
 use Rattle.model.specs.declared.Entry.{Entry}
 use Rattle.model.specs.declared.Entry.TheVariants.{Start, End, Choose, Leave}
@@ -69,14 +70,14 @@ grown_rank (Choose i b) Left h = absurd (omega arith)
 grown_rank (Leave i) Left h = absurd (omega arith)
 
 never : {P : Type 0} (e : Entry) (s : State) → s ≡ needed e → (s ≡ Skipped) ⊎ (s ≡ NotActivated) → P
-never (Start i) s h (inl k) = absurd (let z : ◌≡◌ {A = ℕ} 0 1 = cc in omega arith)
-never (Start i) s h (inr k) = absurd (let z : ◌≡◌ {A = ℕ} 0 1 = cc in omega arith)
-never (End i) s h (inl k) = absurd (let z : ◌≡◌ {A = ℕ} 0 1 = cc in omega arith)
-never (End i) s h (inr k) = absurd (let z : ◌≡◌ {A = ℕ} 0 1 = cc in omega arith)
-never (Choose i b) s h (inl k) = absurd (let z : ◌≡◌ {A = ℕ} 0 1 = cc in omega arith)
-never (Choose i b) s h (inr k) = absurd (let z : ◌≡◌ {A = ℕ} 0 1 = cc in omega arith)
-never (Leave i) s h (inl k) = absurd (let z : ◌≡◌ {A = ℕ} 0 1 = cc in omega arith)
-never (Leave i) s h (inr k) = absurd (let z : ◌≡◌ {A = ℕ} 0 1 = cc in omega arith)
+never (Start i) s h (inl k) = absurd cc
+never (Start i) s h (inr k) = absurd cc
+never (End i) s h (inl k) = absurd cc
+never (End i) s h (inr k) = absurd cc
+never (Choose i b) s h (inl k) = absurd cc
+never (Choose i b) s h (inr k) = absurd cc
+never (Leave i) s h (inl k) = absurd cc
+never (Leave i) s h (inr k) = absurd cc
 
 -- where nodes with facts have true signals, so has the node of a step
 step_true : (e : Entry) (v : Signal) (f : Fact) (r : Bool) → state_of v f r ≡ needed e → (has_fact f ≡ true → v ≡ True) → v ≡ True
@@ -96,10 +97,10 @@ no_fact (Decided b) h = absurd (h refl)
 no_fact Left h = absurd (h refl)
 
 false_true : False ≡ True → ⊥
-false_true e = let z : ◌≡◌ {A = ℕ} 0 1 = cc in omega arith
+false_true e = cc
 
 none_true : None ≡ True → ⊥
-none_true e = let z : ◌≡◌ {A = ℕ} 0 1 = cc in omega arith
+none_true e = cc
 
 -- a fact that stays
 rule_stays : (v : Signal) (f : Fact) → (has_fact f ≡ true → v ≡ True) → Rule v f f
@@ -110,17 +111,12 @@ rule_stays None f s = no_fact f (λ h. none_true (s h))
 some_one : (o : Option Signal) (u v : Signal) → o ≡ option.Some u → o ≡ option.Some v → u ≡ v
 some_one o u v p q = cc
 
-nothing_at : (n i : ℕ) → get_or (replicate n Nothing) i Nothing ≡ Nothing
-nothing_at zero i = refl
-nothing_at (suc n) zero = refl
-nothing_at (suc n) (suc i) = nothing_at n i
-
 -- every node with a fact has the own signal true
 abbrev pub Sound : List Element → List Fact → Type 0
 Sound xs fs = (i : ℕ) (v : Signal) → Stands xs (signals fs start xs) i v → has_fact (fact_of fs i) ≡ true → v ≡ True
 
 pub no_facts_sound : (xs : List Element) → Sound xs no_facts
-no_facts_sound xs i v h e = absurd (false≢true (sym (ap has_fact (nothing_at 64 i)) ∙ e))
+no_facts_sound xs i v h e = absurd (false≢true (sym (ap has_fact (get_or-replicate_default 64 i Nothing)) ∙ e))
 
 module _ (S : SchemaParts) (c : Checked S) where
   grow_row : (fs gs : List Fact) → Fit fs gs S.row (signals fs start S.row) → Leqs (signals fs start S.row) (signals gs start S.row)
@@ -138,7 +134,7 @@ module _ (S : SchemaParts) (c : Checked S) where
       go : (o : Option Signal) → own S.row (signals fs start S.row) 0 (entry_id e) ≡ o
           → with_signal o (fact_of fs (entry_id e)) (free S.row (signals fs start S.row) fs S.edges (entry_id e)) ≡ option.Some (needed e)
           → own S.row (signals fs start S.row) 0 (entry_id e) ≡ option.Some True
-      go option.None is h = absurd (let z : ◌≡◌ {A = ℕ} 0 1 = cc in omega arith)
+      go option.None is h = absurd cc
       go (option.Some g) is h =
           let same : state_of g (fact_of fs (entry_id e)) (free S.row (signals fs start S.row) fs S.edges (entry_id e)) ≡ needed e = cc in
           is ∙ ap option.Some (step_true e g (fact_of fs (entry_id e)) _ same (s (entry_id e) g (own_stands S.row _ (entry_id e) g is)))

@@ -44,34 +44,34 @@ never : {P : Type 0} (s t : State) → (s ≡ t → ◌≡◌ {A = ℕ} 0 1) →
 never s t f e = absurd (let z = f e in omega arith)
 
 waits : (g : Signal) (r : Bool) → waiting g r ≡ Running → ⊥
-waits True true e = let z : ◌≡◌ {A = ℕ} 0 1 = cc in omega arith
-waits True false e = let z : ◌≡◌ {A = ℕ} 0 1 = cc in omega arith
-waits False r e = let z : ◌≡◌ {A = ℕ} 0 1 = cc in omega arith
-waits None r e = let z : ◌≡◌ {A = ℕ} 0 1 = cc in omega arith
+waits True true e = cc
+waits True false e = cc
+waits False r e = cc
+waits None r e = cc
 
 -- Activated has no fact, Running is begun
 active_fact : (f : Fact) (w : State) → by_fact f w ≡ Activated → rank f ≡ 0
 active_fact Nothing w e = refl
-active_fact Begun w e = absurd (let z : ◌≡◌ {A = ℕ} 0 1 = cc in omega arith)
-active_fact Ended w e = absurd (let z : ◌≡◌ {A = ℕ} 0 1 = cc in omega arith)
-active_fact (Decided b) w e = absurd (let z : ◌≡◌ {A = ℕ} 0 1 = cc in omega arith)
-active_fact Left w e = absurd (let z : ◌≡◌ {A = ℕ} 0 1 = cc in omega arith)
+active_fact Begun w e = absurd cc
+active_fact Ended w e = absurd cc
+active_fact (Decided b) w e = absurd cc
+active_fact Left w e = absurd cc
 
 running_fact : (f : Fact) (g : Signal) (r : Bool) → by_fact f (waiting g r) ≡ Running → rank f ≡ 1
 running_fact Nothing g r e = absurd (waits g r e)
 running_fact Begun g r e = refl
-running_fact Ended g r e = absurd (let z : ◌≡◌ {A = ℕ} 0 1 = cc in omega arith)
-running_fact (Decided b) g r e = absurd (let z : ◌≡◌ {A = ℕ} 0 1 = cc in omega arith)
-running_fact Left g r e = absurd (let z : ◌≡◌ {A = ℕ} 0 1 = cc in omega arith)
+running_fact Ended g r e = absurd cc
+running_fact (Decided b) g r e = absurd cc
+running_fact Left g r e = absurd cc
 
 active_rank : (g : Signal) (f : Fact) (r : Bool) → state_of g f r ≡ Activated → rank f ≡ 0
 active_rank True f r e = active_fact f _ e
-active_rank False f r e = absurd (let z : ◌≡◌ {A = ℕ} 0 1 = cc in omega arith)
+active_rank False f r e = absurd cc
 active_rank None f r e = active_fact f _ e
 
 running_rank : (g : Signal) (f : Fact) (r : Bool) → state_of g f r ≡ Running → rank f ≡ 1
 running_rank True f r e = running_fact f True r e
-running_rank False f r e = absurd (let z : ◌≡◌ {A = ℕ} 0 1 = cc in omega arith)
+running_rank False f r e = absurd cc
 running_rank None f r e = running_fact f None r e
 
 needed_rank : (e : Entry) (g : Signal) (f : Fact) (r : Bool) → state_of g f r ≡ needed e → rank f ≡ rank_needed e
@@ -88,7 +88,7 @@ raised (Leave i) = omega arith
 
 -- what has a state is in the row
 pub own_among : (xs : List Element) (gs : List Signal) (p id : ℕ) (g : Signal) → own xs gs p id ≡ option.Some g → Among xs id
-own_among [] gs p id g e = absurd (let z : ◌≡◌ {A = ℕ} 0 1 = cc in omega arith)
+own_among [] gs p id g e = absurd cc
 own_among (x ∷ xs) gs p id g e = go (is_id (node_id x) id) refl e (own_among xs gs (p + 1) id g)
   where
     go : (b : Bool) → is_id (node_id x) id ≡ b → cond b (option.Some (get_or gs p None)) (own xs gs (p + 1) id) ≡ option.Some g → (own xs gs (p + 1) id ≡ option.Some g → Among xs id) → Among (x ∷ xs) id
@@ -105,7 +105,7 @@ module _ (S : SchemaParts) (c : Checked S) where
     where
       go : (o : Option Signal) → own S.row (signals fs start S.row) 0 (entry_id e) ≡ o
           → with_signal o (fact_of fs (entry_id e)) (free S.row (signals fs start S.row) fs S.edges (entry_id e)) ≡ option.Some (needed e) → StepOf fs e
-      go option.None is h = absurd (let z : ◌≡◌ {A = ℕ} 0 1 = cc in omega arith)
+      go option.None is h = absurd cc
       go (option.Some g) is h =
           let same : state_of g (fact_of fs (entry_id e)) (free S.row (signals fs start S.row) fs S.edges (entry_id e)) ≡ needed e = cc in
           record { low = (checked_fine S.row S.edges c).1 (entry_id e) (own_among S.row _ 0 (entry_id e) g is); before = needed_rank e g _ _ same }

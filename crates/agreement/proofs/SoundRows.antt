@@ -1,5 +1,5 @@
 -- Nodes of a row with their own signals. Assumes nothing.
-use Rattle.std.proofs.Common.{◌≡◌, ℕ, suc, ◌+◌, Bool, true, false, cond, ◌⊎◌, List, [], ◌∷◌, get_or, Option, sym, refl, ap, ◌∙◌, subst, inl, inr, add-one, arith}
+use Rattle.std.proofs.Common.{◌≡◌, ℕ, suc, ◌+◌, Bool, true, false, cond, ◌⊎◌, List, [], ◌∷◌, get_or, Option, sym, refl, ap, ◌∙◌, subst, inl, inr, add-one}
 use Rattle.std.specs.declared.option.Option.TheVariants as option
 use Rattle.model.specs.declared.Element.{Element}
 use Rattle.model.specs.declared.Element.TheVariants.{Bar, AndJoin, XorJoin, LoopEnd}
@@ -38,7 +38,7 @@ own_later (x ∷ xs) gs p id =
 
 -- what is found stands there
 pub own_stands : (xs : List Element) (gs : List Signal) (id : ℕ) (g : Signal) → own xs gs 0 id ≡ option.Some g → Stands xs gs id g
-own_stands [] gs id g e = absurd (let z : ◌≡◌ {A = ℕ} 0 1 = cc in omega arith)
+own_stands [] gs id g e = absurd cc
 own_stands (x ∷ xs) gs id g e = go (is_id (node_id x) id) refl e (own_stands xs (later gs) id g)
   where
     go : (b : Bool) → is_id (node_id x) id ≡ b → cond b (option.Some (get_or gs 0 None)) (own xs gs (0 + 1) id) ≡ option.Some g

@@ -1,4 +1,5 @@
 pub mod Entries
 pub mod CaseRecords
 pub mod Readings
+pub mod Coming
 pub mod Laws

@@ -1,10 +1,11 @@
 // A case record, taken apart.
-ghost use Rattle.std.specs.Prelude.{◌≡◌, ◌<◌, ◌≤◌, map, length, MatchOption, slice_index_or};
+ghost use Rattle.std.specs.Prelude.{◌≡◌, ◌^◌, ◌<◌, ◌≤◌, map, length, MatchOption, slice_index_or};
 ghost use Rattle.std.specs.List.{slice_get};
 ghost use Rattle.case_record.specs.Entries.{entries_in, entry_from, zeros};
 ghost use Rattle.case_record.specs.Readings.{ReadsTo};
+ghost use Rattle.case_record.specs.Coming.{coming};
 
-use crate::{CaseRecord, RawEntry};
+use crate::{CaseRecord, Entries, RawEntry};
 use record::{Malformed, item};
 
 // Takes a record apart, if it is a case record and just as long as its count says.
@@ -27,9 +28,11 @@ impl<'a> TryFrom<&'a [u8]> for CaseRecord<'a> {
     }
 }
 
+// `len` and `entry` have twins in plan records: a trait with a constant for the size would only be longer than both.
 impl<'a> CaseRecord<'a> {
     // The entries' bytes.
-    pub fn pieces(&self) -> &'a [[u8; 3]]
+    #[tactic(auto, using(crate::proofs::Triples::entries_pieces))]
+    fn pieces(&self) -> &'a [[u8; 3]]
         ensures { map entry_from result.now ≡ entries_in self.now.entries.now }
     {
         self.entries.as_chunks::<3>().0
@@ -40,6 +43,16 @@ impl<'a> CaseRecord<'a> {
         ensures { result ≡ length (entries_in self.now.entries.now) }
     {
         self.pieces().len()
+    }
+
+    // The entries in their order.
+    pub fn iter(&self) -> Entries<'a>
+        ensures items { coming result ≡ entries_in self.now.entries.now }
+        ensures few { length (coming result) < 2 ^ 64 }
+    {
+        Entries {
+            pieces: self.pieces().iter(),
+        }
     }
 
     // The i-th entry; none past the end.

@@ -2,10 +2,12 @@
 #![tactic(auto)]
 
 mod cases;
+mod entries;
 mod laws;
 #[cfg(test)]
 mod tests;
 
+pub use entries::Entries;
 pub use laws::reading_inverts_writing;
 use model::{Entry, Unspelled};
 
@@ -35,19 +37,20 @@ impl TryFrom<RawEntry> for Entry {
     type Error = Unspelled;
 
     ghost use Rattle.std.specs.Prelude.{◌≡◌};
-    ghost use Rattle.model.specs.Entries.{entry_from, EntrySpells};
+    ghost use Rattle.model.specs.Entries.{entry_spelled, EntrySpells};
 
-    ghost try_from_gives = { λ raw entry. entry ≡ entry_from (raw.kind, raw.id, raw.branch) };
+    ghost try_from_gives = { λ raw entry. entry ≡ entry_spelled (raw.kind, raw.id, raw.branch) };
 
     fn try_from(raw: RawEntry) -> Result<Entry, Unspelled>
-        ensures value { result ≡ entry_from (raw.kind, raw.id, raw.branch) }
+        ensures value { result ≡ entry_spelled (raw.kind, raw.id, raw.branch) }
         ensures spelled { EntrySpells (raw.kind, raw.id, raw.branch) result }
     {
         Entry::try_from((raw.kind, raw.id, raw.branch))
     }
 }
 
-// A case record as it stands in a line.
+// A case record as it stands in a line. The entries are bare bytes and no pieces: anyone may build a record of any bytes, and
+// pieces would ask more of them.
 #[derive(Clone, Copy)]
 pub struct CaseRecord<'a> {
     pub number: u32,

@@ -25,6 +25,18 @@ fn a_case_is_taken_apart(rt: HostRuntime) -> Result<(), Fail> {
 }
 
 #[test]
+fn entries_come_in_their_order(rt: HostRuntime) -> Result<(), Fail> {
+    let line = b"030000000700020101FF030201";
+    let record = Record::try_from(line.as_slice())?;
+    let case = CaseRecord::try_from(record.bytes())?;
+    let mut entries = case.iter();
+    assert_eq!(rt; entries.next(), Some(entry(1, 1, 255)));
+    assert_eq!(rt; entries.next(), Some(entry(3, 2, 1)));
+    assert_eq!(rt; entries.next(), None);
+    Ok(())
+}
+
+#[test]
 fn a_case_may_have_no_entry(rt: HostRuntime) -> Result<(), Fail> {
     let line = b"03010203040000";
     let record = Record::try_from(line.as_slice())?;

@@ -1,10 +1,10 @@
 -- Bytes four by four: how many changes there are, what stands in each, and back again.
-use Rattle.std.proofs.Common.{◌≡◌, ℕ, suc, ◌*◌, ◌/◌, List, [], ◌∷◌, map, length, refl, ap, arith}
+use Rattle.std.proofs.Common.{◌≡◌, ℕ, suc, ◌-◌, ◌*◌, ◌/◌, List, [], ◌∷◌, map, length, refl, ap, arith}
 use Rattle.std.specs.List.{AllByRecursion}
 use Rattle.record.specs.Hex.{Byte}
 use Rattle.record.proofs.Pieces.{pieces, items_count}
 use Rattle.plan_record.specs.declared.RawChange.{RawChange}
-use Rattle.plan_record.specs.Changes.{change_of, change_from, changes_in, change_bytes, Fourfold}
+use Rattle.plan_record.specs.Changes.{change_of, change_from, changes_in, change_bytes}
 use Rattle.plan_record.specs.PlanRecords.{ByteChange}
 
 pub changes_pieces : (bs : List ℕ) → changes_in bs ≡ map change_from (pieces 4 bs)
@@ -19,19 +19,16 @@ changes_pieces (k ∷ a ∷ b ∷ c ∷ bs) =
 pub count_changes : (bs : List ℕ) (n : ℕ) → length bs ≡ 4 * n → length (changes_in bs) ≡ n
 count_changes bs n h = items_count 4 (omega arith) change_from bs _ (changes_pieces bs) n h
 
-pub fourfold : (bs : List ℕ) (n : ℕ) → length bs ≡ 4 * n → Fourfold bs
-fourfold bs n h = omega (arith, count_changes bs n h)
-
 pub changes_in_bytes : (xs : List RawChange) → changes_in (change_bytes xs) ≡ xs
 changes_in_bytes [] = refl
 changes_in_bytes (x ∷ xs) = ap (λ ys. x ∷ ys) (changes_in_bytes xs)
 
-pub bytes_of_changes : (bs : List ℕ) → Fourfold bs → change_bytes (changes_in bs) ≡ bs
-bytes_of_changes [] h = refl
-bytes_of_changes (k ∷ []) h = absurd (omega arith)
-bytes_of_changes (k ∷ a ∷ []) h = absurd (omega arith)
-bytes_of_changes (k ∷ a ∷ b ∷ []) h = absurd (omega arith)
-bytes_of_changes (k ∷ a ∷ b ∷ c ∷ bs) h = ap (λ cs. k ∷ a ∷ b ∷ c ∷ cs) (bytes_of_changes bs (omega arith))
+pub bytes_of_changes : (bs : List ℕ) (n : ℕ) → length bs ≡ 4 * n → change_bytes (changes_in bs) ≡ bs
+bytes_of_changes [] n h = refl
+bytes_of_changes (k ∷ []) n h = absurd (omega arith)
+bytes_of_changes (k ∷ a ∷ []) n h = absurd (omega arith)
+bytes_of_changes (k ∷ a ∷ b ∷ []) n h = absurd (omega arith)
+bytes_of_changes (k ∷ a ∷ b ∷ c ∷ bs) n h = ap (λ cs. k ∷ a ∷ b ∷ c ∷ cs) (bytes_of_changes bs (n - 1) (omega arith))
 
 pub length_change_bytes : (xs : List RawChange) → length (change_bytes xs) ≡ 4 * length xs
 length_change_bytes [] = refl

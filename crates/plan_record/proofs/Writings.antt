@@ -8,14 +8,14 @@ use Rattle.record.proofs.Formats.{inverts}
 use Rattle.plan_record.specs.Changes.{changes_in, change_bytes}
 use Rattle.plan_record.specs.PlanRecords.{RawPlan, Writable, Writing, plan_bytes, read_plan, read_decoded}
 use Rattle.plan_record.specs.Laws.{ReadingInvertsWriting}
-use Rattle.plan_record.proofs.Quadruples.{fourfold, count_changes, changes_in_bytes, bytes_of_changes, length_change_bytes, all_changes, all_change_bytes}
+use Rattle.plan_record.proofs.Quadruples.{count_changes, changes_in_bytes, bytes_of_changes, length_change_bytes, all_changes, all_change_bytes}
 
 -- the parts of a record, put together again
 written : (n : ℕ) (rest : List ℕ) → n < 256 → AllByRecursion Byte rest → length rest ≡ 4 * n →
     Writing (2 ∷ n ∷ rest) (record { changes = changes_in rest })
 written n rest small all long =
     let count : n ≡ length (changes_in rest) = sym (count_changes rest n long) in
-    let tail : rest ≡ change_bytes (changes_in rest) = sym (bytes_of_changes rest (fourfold rest n long)) in
+    let tail : rest ≡ change_bytes (changes_in rest) = sym (bytes_of_changes rest n long) in
     let same : 2 ∷ n ∷ rest ≡ plan_bytes (record { changes = changes_in rest }) = cc in
     (record { few = omega arith; changes = all_changes rest all }, same)
 

@@ -1,5 +1,5 @@
 -- Changes lying one after the other, four bytes each.
-use Rattle.std.specs.Prelude.{◌≡◌, ℕ, ◌*◌, List, [], ◌∷◌, length, slice_index_or}
+use Rattle.std.specs.Prelude.{ℕ, List, [], ◌∷◌, slice_index_or}
 use Rattle.plan_record.specs.declared.RawChange.{RawChange}
 
 -- a change by its bytes
@@ -26,7 +26,3 @@ changes_in (k ∷ a ∷ b ∷ c ∷ bs) = change_of k a b c ∷ changes_in bs
 abbrev pub change_bytes : List RawChange → List ℕ
 change_bytes [] = []
 change_bytes (x ∷ xs) = x.kind ∷ x.a ∷ x.b ∷ x.c ∷ change_bytes xs
-
--- no byte is left over
-abbrev pub Fourfold : List ℕ → Type 0
-Fourfold bs = length bs ≡ 4 * length (changes_in bs)

@@ -1,19 +1,20 @@
 -- What a plan record that was taken apart says.
-use Rattle.std.specs.Prelude.{◌≡◌, ℕ, List, Option, Result, MatchOption, IfSome}
+use Rattle.std.specs.Prelude.{◌≡◌, ℕ, List, map, length, Option, Result, MatchOption, IfSome}
+use Rattle.std.specs.List.{All}
 use Rattle.std.specs.Option.{option_map}
 use Rattle.std.specs.Result.{result_ok}
 use Rattle.record.specs.declared.Malformed.{Malformed}
 use Rattle.plan_record.specs.declared.PlanRecord.{PlanRecord}
 use Rattle.plan_record.specs.PlanRecords.{RawPlan, Writing, read_plan}
-use Rattle.plan_record.specs.Changes.{changes_in, Fourfold}
+use Rattle.plan_record.specs.Changes.{change_from}
 
--- its bytes as changes
+-- its pieces as changes
 abbrev pub raw : PlanRecord → RawPlan
-raw p = record { changes = changes_in p.changes.now }
+raw p = record { changes = map change_from p.changes.now }
 
--- it does not end in part of a change
+-- it does not end in part of a change: each has its four bytes
 abbrev pub Whole : PlanRecord → Type 0
-Whole p = Fourfold p.changes.now
+Whole p = All (λ piece. length piece ≡ 4) p.changes.now
 
 -- accepted bytes are the writing of what was read, and refused ones are no plan's writing
 abbrev pub Written : List ℕ → Option PlanRecord → Type 0

@@ -30,9 +30,9 @@ impl From<[u8; 4]> for RawChange {
     }
 }
 
-// A plan record as it stands in a line.
+// A plan record as it stands in a line. No model: a type that borrows and is `Copy` can't have one.
 #[derive(Clone, Copy)]
 pub struct PlanRecord<'a> {
-    // four bytes a change, one after the other
-    changes: &'a [u8],
+    // four bytes a change
+    changes: &'a [[u8; 4]],
 }

@@ -1,35 +1,30 @@
 -- The entries of a loop's body can be dropped from a run that leaves its test undone. Assumes nothing.
-use Rattle.std.proofs.Common.{◌≡◌, ℕ, zero, suc, ◌<◌, Bool, true, false, cond, not, ◌&&◌, ◌||◌, eqb, ◌⊎◌, List, [], ◌∷◌, length, get_or, set, Decides, Option, sym, refl, ap, ◌∙◌, subst, ap₂, inl, inr, ⊎_elim, arith, length-set}
-use Rattle.std.specs.declared.option.Option.TheVariants as option
-use Rattle.std.proofs.lemmas.List.{get_or_default, get_or-set_same, length-replicate}
-use Rattle.std.proofs.lemmas.Bool.{cond-false, eqb-true, true≢false, false≢true}
-use Rattle.model.specs.declared.Element.{Element}
-use Rattle.model.specs.declared.Element.TheVariants.{Activity, AndSplit, Bar, AndJoin, XorSplit, XorJoin, LoopStart, LoopEnd}
+use Rattle.std.proofs.Common.{◌≡◌, ℕ, ◌<◌, Bool, true, false, cond, not, ◌&&◌, ◌||◌, eqb, List, [], ◌∷◌, length, set, Decides, sym, refl, ap, ◌∙◌, subst, ap₂, inl, inr, ⊎_elim, arith, length-set}
+use Rattle.std.proofs.lemmas.List.{get_or-set_same, length-replicate}
+use Rattle.std.proofs.lemmas.Bool.{cond-false, eqb-true, true≢false}
 use Rattle.model.specs.declared.Edge.{Edge}
 use Rattle.model.specs.declared.Entry.{Entry}
 use Rattle.model.specs.declared.Entry.TheVariants.{Start, End, Choose, Leave}
 use Rattle.model.specs.declared.Fact.{Fact}
 use Rattle.model.specs.declared.Fact.TheVariants.{Nothing, Begun, Ended, Decided, Left}
 use Rattle.model.specs.Entries.{entry_id, fact_set}
-use Rattle.model.specs.Rows.{Bears, Unique}
-use Rattle.model.specs.Trees.{Seq, nil, cons, Item, activity, loop, and, xor, Branches, last, bar, spell, spell_item, spell_branches, flatten}
-use Rattle.model.specs.Nodes.{Holds, HoldsItem, HoldsBranches}
+use Rattle.model.specs.Rows.{Unique}
+use Rattle.model.specs.Trees.{Seq, loop, flatten}
+use Rattle.model.specs.Nodes.{Holds}
 use Rattle.model.specs.Relations.{In}
 use Rattle.model.specs.Signals.{fact_of, tree_signals}
 use Rattle.facts.specs.Facts.{reset}
-use Rattle.facts.proofs.Resets.{reset_of, reset_is, reset_nothing, reset_set, set_reset}
+use Rattle.facts.proofs.Resets.{reset_of, reset_nothing, reset_set, set_reset}
 use Rattle.edges.proofs.TreeOrder.{Once}
 use Rattle.edges.proofs.RowIds as rows
-use Rattle.layout.specs.Nodes.{Finds}
-use Rattle.layout.proofs.Finds.{places_find}
 use Rattle.schema.specs.Checks.{SchemaParts, Admitted}
 use Rattle.schema.specs.Reading.{among}
-use Rattle.schema.specs.Tables.{place_in}
 use Rattle.schema.proofs.Checked.{checked_fine, checked_nested}
 use Rattle.marking.specs.Machine.{signals, start}
 use Rattle.marking.specs.States.{own, settled, free, with_signal, state_in}
 use Rattle.marking.proofs.TreeSignals.{on_tree}
-use Rattle.runs.specs.Steps.{fits_element, fits_at, Allowed, Runs, ends, steps}
+use Rattle.runs.specs.Steps.{Allowed, Runs, ends, steps}
+use Rattle.runs.proofs.NodesFit.{fits_node}
 use Rattle.agreement.specs.Laws.{no_facts}
 use Rattle.agreement.specs.Growth.{Grown}
 use Rattle.agreement.proofs.Progress.{rank, step_of}
@@ -38,23 +33,23 @@ use Rattle.rounds.specs.Rounds.{in_round, outside}
 use Rattle.rounds.proofs.HeldItems.{held_once}
 use Rattle.rounds.proofs.SteadySignals.{Undone, Alike, own_alike, tree_alike}
 use Rattle.rounds.proofs.LoopEdges.{from_outside, AllJoined, checked_joined}
-use Rattle.rounds.proofs.RoundRows.{body_or_nothing}
+use Rattle.rounds.proofs.RoundRows.{body_found}
 use Rattle.rounds.proofs.RoundSets.{decides_among}
 
 -- nothing grows to nothing only
 from_nothing : (f : Fact) → Grown f Nothing → f ≡ Nothing
 from_nothing Nothing h = refl
-from_nothing Begun (inl e) = absurd (grind arith)
-from_nothing Begun (inr e) = absurd (grind arith)
-from_nothing Ended h = absurd (grind arith)
-from_nothing (Decided b) h = absurd (grind arith)
-from_nothing Left h = absurd (grind arith)
+from_nothing Begun (inl e) = absurd cc
+from_nothing Begun (inr e) = absurd cc
+from_nothing Ended h = absurd cc
+from_nothing (Decided b) h = absurd cc
+from_nothing Left h = absurd cc
 
 sets_something : (e : Entry) → fact_set e ≡ Nothing → ⊥
-sets_something (Start i) h = let z : ◌≡◌ {A = ℕ} 0 1 = cc in omega arith
-sets_something (End i) h = let z : ◌≡◌ {A = ℕ} 0 1 = cc in omega arith
-sets_something (Choose i b) h = let z : ◌≡◌ {A = ℕ} 0 1 = cc in omega arith
-sets_something (Leave i) h = let z : ◌≡◌ {A = ℕ} 0 1 = cc in omega arith
+sets_something (Start i) h = cc
+sets_something (End i) h = cc
+sets_something (Choose i b) h = cc
+sets_something (Leave i) h = cc
 
 unranked : (f : Fact) → rank f ≡ 0 → f ≡ Nothing
 unranked Nothing h = refl
@@ -154,98 +149,6 @@ module _ (S : SchemaParts) (c : Admitted S) (t : Seq) (is : S.row ≡ flatten t)
       subst (λ hs. Runs S hs (outside P es) (reset P gs)) (reset_nothing P 64)
       (dropped no_facts gs es (length-replicate {A = Fact} 64 Nothing) (no_facts_sound S.row) r q)
 
--- where nothing is dropped the run is the same
-module _ (P : ℕ → Bool) (none : (id : ℕ) → P id ≡ false) where
-  outside_all : (es : List Entry) → outside P es ≡ es
-  outside_all [] = refl
-  outside_all (e ∷ es) = ap (λ b. cond b (outside P es) (e ∷ outside P es)) (none (entry_id e)) ∙ ap (λ ds. e ∷ ds) (outside_all es)
-
-  reset_none : (gs : List Fact) → gs ≡ reset P gs
-  reset_none gs = reset_is P gs gs refl (λ id. sym (cond-false (P id) Nothing (fact_of gs id) (none id)))
-
-  nothing_dropped : (S : SchemaParts) (fs gs : List Fact) (es : List Entry) → Runs S fs es gs → Runs S fs (outside P es) (reset P gs)
-  nothing_dropped S fs gs es r =
-      subst (λ hs. Runs S fs (outside P es) hs) (reset_none gs) (subst (λ ds. Runs S fs ds gs) (sym (outside_all es)) r)
-
--- the row has the loop end of test i
-abbrev HasEnd : List Element → ℕ → Type 0
-HasEnd [] i = ⊥
-HasEnd (x ∷ xs) i = (x ≡ LoopEnd i) ⊎ HasEnd xs i
-
-has_end_at : (xs : List Element) (i p : ℕ) → p < length xs → get_or xs p AndSplit ≡ LoopEnd i → HasEnd xs i
-has_end_at [] i p l e = absurd (omega arith)
-has_end_at (x ∷ xs) i zero l e = inl e
-has_end_at (x ∷ xs) i (suc p) l e = inr (has_end_at xs i p (omega arith) e)
-
-module _ (i : ℕ) where
-  abbrev InLoop : (Item → Type 0) → Type 0
-  InLoop H = (u : Seq) × H (loop u i)
-
-  -- it is that of a loop of the tree, or stands behind the tree
-  mutual
-    loop_of : (t : Seq) (ys : List Element) → HasEnd (spell t ys) i → InLoop (Holds t) ⊎ HasEnd ys i
-    loop_of nil ys h = inr h
-    loop_of (cons x t) ys h = next (loop_of_item x (spell t ys) h) (loop_of t ys)
-      where
-        next : InLoop (λ z. (z ≡ x) ⊎ HoldsItem x z) ⊎ HasEnd (spell t ys) i → (HasEnd (spell t ys) i → InLoop (Holds t) ⊎ HasEnd ys i) → InLoop (Holds (cons x t)) ⊎ HasEnd ys i
-        next (inl (u, h)) f = inl (u, inl h)
-        next (inr h) f = ⊎_elim (λ k. inl (k.0, inr k.1)) inr (f h)
-
-    loop_of_item : (x : Item) (ys : List Element) → HasEnd (spell_item x ys) i → InLoop (λ z. (z ≡ x) ⊎ HoldsItem x z) ⊎ HasEnd ys i
-    loop_of_item (activity j) ys (inl e) = absurd (grind arith)
-    loop_of_item (activity j) ys (inr h) = inr h
-    loop_of_item (loop t j) ys (inl e) = absurd (grind arith)
-    loop_of_item (loop t j) ys (inr h) = next (loop_of t (LoopEnd j ∷ ys) h)
-      where
-        next : InLoop (Holds t) ⊎ ((LoopEnd j ≡ LoopEnd i) ⊎ HasEnd ys i) → InLoop (λ z. (z ≡ loop t j) ⊎ Holds t z) ⊎ HasEnd ys i
-        next (inl (u, k)) = inl (u, inr k)
-        next (inr (inl e)) = let same : j ≡ i = cc in inl (t, inl (ap (loop t) (sym same)))
-        next (inr (inr k)) = inr k
-    loop_of_item (and b) ys (inl e) = absurd (grind arith)
-    loop_of_item (and b) ys (inr h) = next (loop_of_branches b (AndJoin ∷ ys) h)
-      where
-        next : InLoop (HoldsBranches b) ⊎ ((AndJoin ≡ LoopEnd i) ⊎ HasEnd ys i) → InLoop (λ z. (z ≡ and b) ⊎ HoldsBranches b z) ⊎ HasEnd ys i
-        next (inl (u, k)) = inl (u, inr k)
-        next (inr (inl e)) = absurd (grind arith)
-        next (inr (inr k)) = inr k
-    loop_of_item (xor j b) ys (inl e) = absurd (grind arith)
-    loop_of_item (xor j b) ys (inr h) = next (loop_of_branches b (XorJoin ∷ ys) h)
-      where
-        next : InLoop (HoldsBranches b) ⊎ ((XorJoin ≡ LoopEnd i) ⊎ HasEnd ys i) → InLoop (λ z. (z ≡ xor j b) ⊎ HoldsBranches b z) ⊎ HasEnd ys i
-        next (inl (u, k)) = inl (u, inr k)
-        next (inr (inl e)) = absurd (grind arith)
-        next (inr (inr k)) = inr k
-
-    loop_of_branches : (b : Branches) (ys : List Element) → HasEnd (spell_branches b ys) i → InLoop (HoldsBranches b) ⊎ HasEnd ys i
-    loop_of_branches (last t) ys h = loop_of t ys h
-    loop_of_branches (bar t b) ys h = next (loop_of t (Bar ∷ spell_branches b ys) h) (loop_of_branches b ys)
-      where
-        next : InLoop (Holds t) ⊎ ((Bar ≡ LoopEnd i) ⊎ HasEnd (spell_branches b ys) i) → (HasEnd (spell_branches b ys) i → InLoop (HoldsBranches b) ⊎ HasEnd ys i)
-            → InLoop (HoldsBranches (bar t b)) ⊎ HasEnd ys i
-        next (inl (u, k)) f = inl (u, inl k)
-        next (inr (inl e)) f = absurd (grind arith)
-        next (inr (inr k)) f = ⊎_elim (λ m. inl (m.0, inr m.1)) inr (f k)
-
-  -- what a test can be left at is its loop end
-  is_end : (xs : List Element) (p : ℕ) (x : Element) → fits_element xs p x (Leave i) ≡ true → Bears x i → x ≡ LoopEnd i
-  is_end xs p (Activity j) f b = absurd (false≢true f)
-  is_end xs p AndSplit f b = elim b [ ]
-  is_end xs p Bar f b = elim b [ ]
-  is_end xs p AndJoin f b = elim b [ ]
-  is_end xs p (XorSplit j) f b = absurd (false≢true f)
-  is_end xs p XorJoin f b = elim b [ ]
-  is_end xs p LoopStart f b = elim b [ ]
-  is_end xs p (LoopEnd j) f b = ap LoopEnd (sym b)
-
-  left_end : (xs : List Element) (o : Option ℕ) → Finds xs i o → fits_at xs (Leave i) o ≡ true → HasEnd xs i
-  left_end xs option.None k f = absurd (false≢true f)
-  left_end xs (option.Some p) k f =
-      has_end_at xs i p k.0 (is_end xs p (get_or xs p AndSplit) (subst (λ x. fits_element xs p x (Leave i) ≡ true) (get_or_default xs p (Activity 0) AndSplit k.0) f) k.1)
-
-  left_loop : (xs : List Element) (t : Seq) → xs ≡ flatten t → fits_at xs (Leave i) (place_in xs i) ≡ true → InLoop (Holds t)
-  left_loop xs t e f =
-      ⊎_elim (λ h. h) (λ z. absurd z) (loop_of t [] (subst (λ ys. HasEnd ys i) e (left_end xs (place_in xs i) (places_find xs i) f)))
-
 decides_in : (u : Seq) (id : ℕ) → Decides (among (flatten u) id) (In u id)
 decides_in u id =
     let d = decides_among (flatten u) id in
@@ -256,9 +159,8 @@ pub finished_dropped : (S : SchemaParts) (gs : List Fact) (es : List Entry) (i :
 finished_dropped S gs es i c r a =
     let n = checked_nested S.row S.edges c.passed in
     let fine = checked_fine S.row S.edges c.passed in
-    let l = left_loop i S.row n.0 n.2 a.fits in
-    ⊎_elim
-    (λ e. dropped_first S c n.0 n.2 l.0 i l.1 (in_round S.row i)
-    (λ id. subst (λ xs. Decides (among xs id) (In l.0 id)) (sym e) (decides_in l.0 id)) gs es r (unranked (fact_of gs i) (step_of S c.passed gs (Leave i) a).before))
-    (λ e. nothing_dropped (in_round S.row i) (λ id. ap (λ xs. among xs id) e) S no_facts gs es r)
-    (body_or_nothing l.0 i S.row n.0 n.2 fine.0 fine.1 l.1)
+    let l = (fits_node S.row c.few fine.0 fine.1 n.0 n.2 (Leave i)).0 a.fits in
+    let is = body_found S n.0 l.0 i c n.2 l.1 in
+    dropped_first S c n.0 n.2 l.0 i l.1 (in_round S.row i)
+    (λ id. subst (λ xs. Decides (among xs id) (In l.0 id)) (sym is) (decides_in l.0 id))
+    gs es r (unranked (fact_of gs i) (step_of S c.passed gs (Leave i) a).before)

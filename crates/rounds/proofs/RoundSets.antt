@@ -11,8 +11,11 @@ use Rattle.model.specs.Rows.{Among, Low}
 use Rattle.layout.specs.declared.Position.{Position}
 use Rattle.schema.specs.Reading.{among}
 use Rattle.schema.specs.Tables.{place_in, position_in}
+use Rattle.schema.specs.declared.schema.Schema.{Schema}
+use Rattle.schema.specs.Schemas.{parts}
+use Rattle.schema.proofs.Checked.{checked_fine}
 use Rattle.schema.proofs.Wrongs.{decides_bears, among_left, among_right}
-use Rattle.rounds.specs.Rounds.{behind, within, up_to, between}
+use Rattle.rounds.specs.Rounds.{behind, within, up_to, between, in_round}
 
 pub decides_among : (xs : List Element) (u : ℕ) → Decides (among xs u) (Among xs u)
 decides_among [] u = (λ e. absurd (false≢true e), λ h. elim h [ ])
@@ -50,9 +53,12 @@ module _ (xs : List Element) (low : Low xs) (id : ℕ) where
   low_within p None = grind arith
   low_within p (Some h) = low_behind p h.block
 
-  pub low_between : (test : ℕ) → (ltb id 64 && among (between xs test) id) ≡ among (between xs test) id
+  low_between : (test : ℕ) → (ltb id 64 && among (between xs test) id) ≡ among (between xs test) id
   low_between test = go (place_in xs test)
     where
       go : (o : Option ℕ) → (ltb id 64 && among (up_to xs o) id) ≡ among (up_to xs o) id
       go None = grind arith
       go (Some p) = low_within p (position_in xs p)
+
+pub low_round : (s : Schema) (test id : ℕ) → (ltb id 64 && among (between (parts s).row test) id) ≡ in_round (parts s).row test id
+low_round s test id = low_between (parts s).row (checked_fine (parts s).row (parts s).edges s.passed).1 id test

@@ -28,6 +28,7 @@ fn nodes_of(elements: &[Element]) -> IdSet
 }
 
 // The ids of the nodes between a loop's start and its test.
+#[tactic(auto, using(crate::proofs::RoundSets::low_round))]
 pub fn round_of(schema: &Schema, test: u8) -> IdSet
     ensures { (id : ℕ) → has result id ≡ in_round (parts schema.now).row test id }
 {

@@ -1,5 +1,5 @@
 -- A step is taken exactly if it is allowed. Assumes nothing.
-use Rattle.std.proofs.Common.{◌≡◌, ℕ, Bool, true, false, cond, List, set, Some, None, Ok, Err, Option, Result, sym, refl, ap, ◌∙◌, arith}
+use Rattle.std.proofs.Common.{◌≡◌, Bool, true, false, cond, List, set, Some, None, Ok, Err, Option, Result, sym, refl, ap, ◌∙◌}
 use Rattle.model.specs.declared.Entry.{Entry}
 use Rattle.model.specs.declared.Entry.TheVariants.{Start, End, Choose, Leave}
 use Rattle.model.specs.declared.Fact.{Fact}
@@ -20,7 +20,7 @@ right_state (Choose i b) = refl
 right_state (Leave i) = refl
 
 never : {P : Type 0} (f : Fact) → ◌≡◌ {A = Option Fact} None (Some f) → P
-never f e = absurd (let z : ◌≡◌ {A = ℕ} 0 1 = cc in omega arith)
+never f e = absurd cc
 
 only_state : (s : State) (e : Entry) (f : Fact) → next_fact s e ≡ Some f → (s ≡ needed e) × (f ≡ fact_set e)
 only_state Activated (Start i) f h = (refl, cc)
@@ -46,7 +46,7 @@ module _ (S : SchemaParts) (fs : List Fact) (e : Entry) where
       ∙ ap (noted fs e) (right_state e)
 
   err_ok : {P : Type 0} (k : StepRefusal) (gs : List Fact) → ◌≡◌ {A = Result (List Fact) StepRefusal} (Err k) (Ok gs) → P
-  err_ok k gs h = absurd (let z : ◌≡◌ {A = ℕ} 0 1 = cc in omega arith)
+  err_ok k gs h = absurd cc
 
   by_fact : (s : State) (o : Option Fact) (gs : List Fact) → next_fact s e ≡ o → noted fs e o ≡ Ok gs → (s ≡ needed e) × (gs ≡ after)
   by_fact s None gs n h = err_ok refusal.State gs h

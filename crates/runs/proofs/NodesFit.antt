@@ -1,6 +1,6 @@
 -- The tables of a tree's row tell whether the tree has the node of a step. Assumes nothing.
 use Rattle.std.proofs.Common.{◌≡◌, ℕ, zero, suc, ◌+◌, ◌<◌, ◌≤◌, true, cond, leb, ◌⊎◌, List, [], ◌∷◌, ◌++◌, length, get_or, Some, None, Decides, Option, sym, refl, ap, ◌∙◌, subst, inl, inr, arith}
-use Rattle.std.proofs.lemmas.List.{append_assoc, length-append, get_or_at}
+use Rattle.std.proofs.lemmas.List.{append_assoc, length-append, get_or_at, get_or_default}
 use Rattle.std.proofs.lemmas.Bool.{false≢true, leb-true, le-leb, lt-ltb}
 use Rattle.model.specs.declared.Element.{Element}
 use Rattle.model.specs.declared.Element.TheVariants.{Activity, AndSplit, Bar, AndJoin, XorSplit, XorJoin, LoopStart, LoopEnd}
@@ -9,7 +9,7 @@ use Rattle.model.specs.declared.Entry.TheVariants.{Start, End, Choose, Leave}
 use Rattle.model.specs.Entries.{entry_id}
 use Rattle.model.specs.Nodes.{Holds, HasNode}
 use Rattle.model.specs.Rows.{Bears, Unique, Low}
-use Rattle.model.specs.Trees.{Seq, Item, activity, loop, and, xor, Branches, last, bar, spell, spell_branches, flatten, count}
+use Rattle.model.specs.Trees.{Seq, Item, activity, loop, and, xor, Branches, spell, spell_branches, flatten, count}
 use Rattle.layout.specs.Pass.{outside, tables_of}
 use Rattle.layout.specs.Nodes.{Finds}
 use Rattle.layout.specs.Gaps.{Begins, Closes, gap_of, Within, Inside, Ended}
@@ -17,16 +17,12 @@ use Rattle.layout.proofs.Facts.{spell_append, spell_append_branches, among_from,
 use Rattle.layout.proofs.Finds.{places_find}
 use Rattle.layout.proofs.Items.{spelt, Member, Node, NodeOf, Found, found}
 use Rattle.layout.proofs.Laid.{tables_laid}
+use Rattle.layout.proofs.Shapes.{some_branch}
 use Rattle.schema.specs.declared.schema.Schema.{Schema}
 use Rattle.schema.specs.Schemas.{parts}
 use Rattle.schema.specs.Tables.{place_in, position_in, end_in}
 use Rattle.schema.proofs.Checked.{laid, checked_fine}
 use Rattle.runs.specs.Steps.{branch_in, by_end, up_to, fits_element, fits_at, fits_in, NodeTold}
-
--- one branch or more
-some_branch : (b : Branches) → (k : ℕ) × (count b ≡ k + 1)
-some_branch (last t) = (0, refl)
-some_branch (bar t b) = let r = some_branch b in (r.0 + 1, omega (arith, r.1))
 
 closes_gap : (x : Element) (p : ℕ) → Closes x → gap_of x p ≡ p
 closes_gap (Activity i) p c = elim c [ ]
@@ -37,11 +33,6 @@ closes_gap (XorSplit i) p c = elim c [ ]
 closes_gap XorJoin p c = refl
 closes_gap LoopStart p c = elim c [ ]
 closes_gap (LoopEnd i) p c = refl
-
-pub same_read : (xs : List Element) (p : ℕ) (d f : Element) → p < length xs → get_or xs p d ≡ get_or xs p f
-same_read [] p d f h = absurd (omega arith)
-same_read (x ∷ xs) zero d f h = refl
-same_read (x ∷ xs) (suc p) d f h = same_read xs p d f (omega arith)
 
 member_at : (xs : List Element) (p : ℕ) (d : Element) → p < length xs → Member (get_or xs p d) xs
 member_at [] p d h = absurd (omega arith)
@@ -54,16 +45,16 @@ module _ (t : Seq) where
     where
       go : (x : Item) → Holds t x → NodeOf x (Activity i) → Holds t (activity i)
       go (activity j) h e = subst (λ k. Holds t (activity k)) (let s : j ≡ i = cc in s) h
-      go (loop u j) h e = absurd (let z : ◌≡◌ {A = ℕ} 0 1 = cc in omega arith)
+      go (loop u j) h e = absurd cc
       go (and b) h e = elim e [ ]
-      go (xor j b) h e = absurd (let z : ◌≡◌ {A = ℕ} 0 1 = cc in omega arith)
+      go (xor j b) h e = absurd cc
 
   the_decision : (i : ℕ) → Found (XorSplit i) tt (Holds t) → (b : Branches) × Holds t (xor i b)
   the_decision i r = go r.item r.held r.is
     where
       go : (x : Item) → Holds t x → NodeOf x (XorSplit i) → (b : Branches) × Holds t (xor i b)
-      go (activity j) h e = absurd (let z : ◌≡◌ {A = ℕ} 0 1 = cc in omega arith)
-      go (loop u j) h e = absurd (let z : ◌≡◌ {A = ℕ} 0 1 = cc in omega arith)
+      go (activity j) h e = absurd cc
+      go (loop u j) h e = absurd cc
       go (and b) h e = elim e [ ]
       go (xor j b) h e = (b, subst (λ k. Holds t (xor k b)) (let s : j ≡ i = cc in s) h)
 
@@ -71,10 +62,10 @@ module _ (t : Seq) where
   the_test i r = go r.item r.held r.is
     where
       go : (x : Item) → Holds t x → NodeOf x (LoopEnd i) → (u : Seq) × Holds t (loop u i)
-      go (activity j) h e = absurd (let z : ◌≡◌ {A = ℕ} 0 1 = cc in omega arith)
+      go (activity j) h e = absurd cc
       go (loop u j) h e = (u, subst (λ k. Holds t (loop u k)) (let s : j ≡ i = cc in s) h)
       go (and b) h e = elim e [ ]
-      go (xor j b) h e = absurd (let z : ◌≡◌ {A = ℕ} 0 1 = cc in omega arith)
+      go (xor j b) h e = absurd cc
 
   -- all of a row is in the tree
   all_found : (x : Element) (n : Node x) → Member x (flatten t) → Found x n (Holds t)
@@ -85,14 +76,14 @@ module _ (t : Seq) where
       go (inr m) = elim m [ ]
 
 module _ (xs : List Element) (few : length xs ≤ 128) (one : Unique xs) (low : Low xs) (t : Seq) (is : xs ≡ flatten t) where
-  at_place : (before : List Element) (x : Element) (after : List Element) (d : Element) → xs ≡ before ++ (x ∷ after) → get_or xs (length before) d ≡ x
+  pub at_place : (before : List Element) (x : Element) (after : List Element) (d : Element) → xs ≡ before ++ (x ∷ after) → get_or xs (length before) d ≡ x
   at_place before x after d parted = ap (λ zs. get_or zs (length before) d) parted ∙ get_or_at before x after d (length before) refl
 
-  in_row : (before : List Element) (x : Element) (after : List Element) → xs ≡ before ++ (x ∷ after) → length before < length xs
+  pub in_row : (before : List Element) (x : Element) (after : List Element) → xs ≡ before ++ (x ∷ after) → length before < length xs
   in_row before x after parted = let long = ap length parted ∙ length-append before (x ∷ after) in omega (arith, long)
 
   -- the place of a node is the one in the table
-  placed : (before : List Element) (x : Element) (after : List Element) (u : ℕ) → xs ≡ before ++ (x ∷ after) → Bears x u → place_in xs u ≡ Some (length before)
+  pub placed : (before : List Element) (x : Element) (after : List Element) (u : ℕ) → xs ≡ before ++ (x ∷ after) → Bears x u → place_in xs u ≡ Some (length before)
   placed before x after u parted b =
       let less = in_row before x after parted in
       let bears : Bears (get_or xs (length before) AndSplit) u = subst (λ y. Bears y u) (sym (at_place before x after AndSplit parted)) b in
@@ -133,7 +124,7 @@ module _ (xs : List Element) (few : length xs ≤ 128) (one : Unique xs) (low : 
         go (Some f) e z =
             let tables = tables_laid xs few t is in
             let h = get_or (tables_of xs).positions f outside in
-            let at : gap_of (get_or xs f AndSplit) f ≡ f = ap (λ x. gap_of x f) (same_read xs f AndSplit Bar z.below) ∙ closes_gap (get_or xs f Bar) f z.closes in
+            let at : gap_of (get_or xs f AndSplit) f ≡ f = ap (λ x. gap_of x f) (get_or_default xs f AndSplit Bar z.below) ∙ closes_gap (get_or xs f Bar) f z.closes in
             let inside : Inside xs f h h.block = subst (λ p. Inside xs p h h.block) at (tables.stood f z.below).inside in
             let theirs : Within xs (length before) f h.branch = subst (Inside xs f h) (tables.closed (length before) f e) inside in
             let same = last_branch theirs z.closes at_join (subst Closes (within_after at_join) tt) in
@@ -190,7 +181,7 @@ module _ (xs : List Element) (few : length xs ≤ 128) (one : Unique xs) (low : 
   by_place : (e : Entry) (o : Option ℕ) → Finds xs (entry_id e) o → fits_at xs e o ≡ true → fits_in xs e ≡ true → HasNode t e
   by_place e None n f h = absurd (false≢true f)
   by_place e (Some p) n f h =
-      let same = same_read xs p AndSplit (Activity 0) n.0 in
+      let same = get_or_default xs p AndSplit (Activity 0) n.0 in
       by_element (get_or xs p (Activity 0)) p e (subst (λ x. Bears x (entry_id e)) same n.1) (subst (Member (get_or xs p (Activity 0))) is (member_at xs p (Activity 0) n.0)) f h
 
   has_fits : (e : Entry) → HasNode t e → fits_in xs e ≡ true

@@ -1,6 +1,6 @@
 -- The run goes through all entries, or stops at the first that is no allowed step. Assumes nothing.
-use Rattle.std.proofs.Common.{◌≡◌, ℕ, ◌+◌, ◌<◌, List, [], ◌∷◌, ◌++◌, length, get_or, drop, set, Some, None, Ok, Err, Option, Result, sym, refl, ap, ◌∙◌, subst, arith, length-append}
-use Rattle.std.proofs.lemmas.List.{append-nil, append_assoc, at_drop_more}
+use Rattle.std.proofs.Common.{◌≡◌, ℕ, ◌+◌, List, [], ◌∷◌, ◌++◌, length, set, Some, None, Ok, Err, Option, Result, sym, refl, ap, ◌∙◌, subst, arith, length-append}
+use Rattle.std.proofs.lemmas.List.{append-nil, append_assoc}
 use Rattle.model.specs.declared.Entry.{Entry}
 use Rattle.model.specs.declared.Fact.{Fact}
 use Rattle.model.specs.declared.refusal.CaseRefusal.{CaseRefusal}
@@ -11,7 +11,7 @@ use Rattle.model.proofs.EntryBytes.{entry_is, is_entry}
 use Rattle.case_record.specs.declared.RawEntry.{RawEntry}
 use Rattle.schema.specs.Checks.{SchemaParts}
 use Rattle.runs.specs.Steps.{Allowed, Runs, ends, steps, step_in, judged, Stepped}
-use Rattle.runs.specs.Histories.{Ran, ran_to, judged_raw, stopped, verdict, then_ran, ran, Spelled, RunTold}
+use Rattle.runs.specs.Histories.{Ran, ran_to, stopped, verdict, then_ran, ran, Spelled, RunTold}
 use Rattle.runs.proofs.Allows.{allowed_step, step_allowed, step_refused}
 
 spelled_last : (rs : List RawEntry) (es : List Entry) (r : RawEntry) (e : Entry) → Spelled rs es → EntryBytes r.kind r.id r.branch e → Spelled (rs ++ r ∷ []) (es ++ e ∷ [])
@@ -70,14 +70,6 @@ module _ (S : SchemaParts) where
       ap (λ o. then_ran fs p q (judged S fs o) (λ hs. ran S hs (p + 1) rs)) (is_entry _ _ _ e s.0)
       ∙ ap (λ v. then_ran fs p q v (λ hs. ran S hs (p + 1) rs)) (allowed_step S fs e a)
       ∙ run_only rs es _ gs (p + 1) s.1 r
-
--- the run goes one entry further
-module _ (S : SchemaParts) (rs : List RawEntry) (fs : List Fact) (p : ℕ) (r d : RawEntry) (h : p < length rs) (is : r ≡ get_or rs p d) where
-  pub ran_at : (v : Result (List Fact) StepRefusal) → judged_raw S fs r ≡ v → ran S fs p (drop p rs) ≡ then_ran fs p r v (λ gs. ran S gs (p + 1) (drop (p + 1) rs))
-  ran_at v e =
-      at_drop_more (ran S fs p) rs p d h
-      ∙ ap (λ q. then_ran fs p q (judged_raw S fs q) (λ gs. ran S gs (p + 1) (drop (p + 1) rs))) (sym is)
-      ∙ ap (λ w. then_ran fs p r w (λ gs. ran S gs (p + 1) (drop (p + 1) rs))) e
 
 -- What a step and the telling of its refusal say of the rest of a run.
 module _ (fs gs : List Fact) (p : ℕ) (r : RawEntry) (v : Result (List Fact) StepRefusal) where

@@ -1,11 +1,10 @@
 // One step of a case.
 ghost use Rattle.std.specs.Prelude.{◌≡◌, ◌<◌, length};
 ghost use Rattle.schema.specs.Schemas.{parts};
-ghost use Rattle.facts.specs.Facts.{facts_by_id};
 ghost use Rattle.runs.specs.Steps.{branch_in, fits_in, next_fact, NodeTold, Stepped, step_in};
 
 use facts::Facts;
-use marking::marking::methods::node_state;
+use marking::marking::node_state;
 use model::refusal::StepRefusal;
 use model::{Element, Entry, Fact, State};
 use schema::schema::Schema;
@@ -50,7 +49,7 @@ fn next_fact(state: State, entry: Entry) -> Option<Fact>
 // caller may try a step on a copy of them.
 #[tactic(auto, using(crate::proofs::NodesFit::node_told))]
 pub fn step(schema: &Schema, facts: &mut Facts, entry: Entry) -> Result<(), StepRefusal>
-    ensures after { Stepped (step_in (parts schema.now) (facts_by_id facts.old) entry) (facts_by_id facts.old) (facts_by_id facts.new) result }
+    ensures after { Stepped (step_in (parts schema.now) facts.old entry) facts.old facts.new result }
     ensures node { NodeTold (parts schema.now).row entry }
 {
     if !fits(schema, entry) {
