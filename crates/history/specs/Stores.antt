@@ -9,7 +9,7 @@
 use Rattle.std.specs.Prelude.{◌≡◌, ℕ, ◌+◌, ◌-◌, ◌<◌, ◌≤◌, cond, List, [], ◌∷◌, ◌++◌, length, Ok, Err, Result, ◌==◌, nat_lt}
 use Rattle.ids.specs.declared.IdSet.{IdSet}
 use Rattle.model.specs.declared.Entry.{Entry}
-use Rattle.bounded.specs.declared.methods.Full.{Full}
+use Rattle.bounded.specs.declared.Full.{Full}
 use Rattle.history.specs.Entries.{kept}
 
 pub record StoreView : Type 0 where

@@ -7,11 +7,12 @@ ghost use Rattle.std.specs.List.{slice_get};
 ghost use Rattle.history.specs.Entries.{kind_of, is_of, last_place, before};
 ghost use Rattle.history.specs.Stores.{StoreView, refusal, cleared, add_answer, added, purge_answer, purged, PurgeBounds};
 
-pub use bounded::methods::Full;
+pub use bounded::Full;
 use ids::IdSet;
 use model::Entry;
 
 // What an entry says, apart from its node.
+// Kind and node stand side by side where an entry is asked for: a struct of both would be built only to ask.
 #[derive(Clone, Copy, PartialEq, Eq, Debug)]
 pub enum EntryKind {
     Start,

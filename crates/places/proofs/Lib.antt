@@ -1,1 +1,2 @@
 mod Compacting
+mod Retaining

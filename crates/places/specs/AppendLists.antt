@@ -7,7 +7,7 @@
 --   pushed x n xs     x behind xs, if any of n places is left
 use Rattle.std.specs.Prelude.{◌≡◌, ℕ, ◌+◌, ◌-◌, cond, List, [], ◌∷◌, ◌++◌, length, take, Ok, Result, ◌==◌}
 use Rattle.std.proofs.Common.{arith, length-take}
-use Rattle.bounded.specs.declared.methods.Full.{Full}
+use Rattle.bounded.specs.declared.Full.{Full}
 use Rattle.history.specs.Stores.{refusal}
 use Rattle.places.specs.declared.AppendList.{AppendList}
 

@@ -13,6 +13,7 @@ use history::Full;
 // The first `used` places of a row, or all of them if it has fewer. What the others hold means nothing.
 // The row and its count stand side by side since the list grows in places that its owner lends, and takes no memory.
 // No invariant holds `used` within the row: a struct that has one and holds a `&mut` can't be held by value in another.
+// No model: a refused push says `self.new ≡ self.old`, and over a view that would say nothing of the places behind the list.
 #[derive(Drop)]
 pub struct AppendList<'a, T: Copy> {
     row: &'a mut [T],

@@ -9,6 +9,7 @@ use ids::IdSet;
 use worklist::bring_in_step;
 
 // What stays keeps its order, and what is new stands behind it, ascending.
+#[tactic(auto, using(crate::proofs::InStep::order_after))]
 pub fn bring_queue_in_step(queue: &mut Queue, wanted: IdSet)
     ensures after { queued queue.new ≡ has wanted }
     ensures besides { order queue.new ≡ order_in_step (has wanted) (order queue.old) }

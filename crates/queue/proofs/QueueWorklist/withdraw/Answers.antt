@@ -1,6 +1,6 @@
 use Rattle.std.proofs.Common.{rules}
 use Rattle.queue.proofs.Withdrawn.{left_in_order, left_listed, left_once}
-use Rattle.queue.proofs.methods.QueueWorklist.withdraw.Goals as goal
+use Rattle.queue.proofs.QueueWorklist.withdraw.Goals as goal
 
 pub returns-clause-after : goal.returns-clause-after
 returns-clause-after c = left_listed c.args.id _ _ (search (rules, left_in_order))
