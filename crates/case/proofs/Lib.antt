@@ -1,2 +1,1 @@
 pub mod Living
-pub mod Repeating

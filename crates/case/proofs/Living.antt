@@ -3,8 +3,8 @@ use Rattle.std.proofs.Common.{◌≡◌, ℕ, List, sym, subst}
 use Rattle.model.specs.declared.Entry.{Entry}
 use Rattle.schema.specs.Checks.{Admitted}
 use Rattle.lives.specs.Views.{CaseView}
-use Rattle.lives.specs.Calls.{opened, step_outcome, load_outcome}
-use Rattle.lives.specs.Lives.{Life, opens, loads, steps, opened_history, loaded_history, stepped_history}
+use Rattle.lives.specs.Calls.{opened, step_outcome, again_outcome, load_outcome}
+use Rattle.lives.specs.Lives.{Life, Leaves, opens, loads, steps, repeats, opened_history, loaded_history, stepped_history, repeated_history}
 
 module _ {cost : ℕ} {w : CaseView} where
   pub life_opened : (v : CaseView) (n : ℕ) → Admitted v.progress.schema → w ≡ opened n v → Life cost opened_history w
@@ -15,3 +15,7 @@ module _ {cost : ℕ} {w : CaseView} where
 
   pub life_stepped : {H : List Entry} (v : CaseView) (e : Entry) → Life cost H v → w ≡ (step_outcome e v).after → Life cost (stepped_history e v H) w
   life_stepped {H} v e l after = subst (Life cost (stepped_history e v H)) (sym after) (steps e l)
+
+  pub life_repeated : {H : List Entry} (v : CaseView) (i free : ℕ) → Leaves cost i free v.progress.schema v.store → Life cost H v → w ≡ (again_outcome cost i free v).after
+      → Life cost (repeated_history cost i free v H) w
+  life_repeated {H} v i free bounds l after = subst (Life cost (repeated_history cost i free v H)) (sym after) (repeats i free (λ _. bounds) l)

@@ -5,7 +5,6 @@
 --   Continues cost next v w   each life up to v goes on to w, and next says what its history then is
 use Rattle.std.specs.Prelude.{ℕ, Bool, List}
 use Rattle.model.specs.declared.Entry.{Entry}
-use Rattle.facts.specs.Facts.{facts_by_id}
 use Rattle.agreement.specs.Laws.{no_facts}
 use Rattle.history.specs.Stores.{StoreView, cleared}
 use Rattle.worklist.specs.Offers.{none_offered}
@@ -17,7 +16,7 @@ use Rattle.case.specs.declared.case.Case.{Case}
 abbrev pub view_of : {S W C : Type 0} → (S → StoreView) → (W → ℕ → Bool) → Case S W C → CaseView
 view_of store offered c = record {
   number = c.number;
-  progress = record { schema = schema_of c.course; facts = facts_by_id c.course.facts };
+  progress = record { schema = schema_of c.course; facts = c.course.facts };
   store = store c.course.store;
   offered = offered c.worklist;
 }

@@ -1,1 +1,2 @@
 pub mod Activities
+pub mod Repeating

@@ -1,7 +1,8 @@
 -- What the course of a case holds; what a store means is handed in. Assumes nothing.
---   schema_of c       its schema
---   held_in view c    its facts, and what its store holds
-use Rattle.facts.specs.Facts.{facts_by_id}
+--   schema_of c           its schema
+--   held_in view c        its facts, and what its store holds
+--   Becomes view P c d    a call made course d of course c: the schema stays, and P says what became of what c held
+use Rattle.std.specs.Prelude.{◌≡◌}
 use Rattle.schema.specs.Checks.{SchemaParts}
 use Rattle.schema.specs.Schemas.{parts}
 use Rattle.history.specs.Stores.{StoreView}
@@ -13,4 +14,8 @@ module _ {S C : Type 0} where
   schema_of c = parts c.schema.now
 
   abbrev pub held_in : (S → StoreView) → Course S C → Held
-  held_in view c = held (facts_by_id c.facts) (view c.store)
+  held_in view c = held c.facts (view c.store)
+
+  pub record Becomes (view : S → StoreView) (P : Held → Held → Type 0) (c d : Course S C) : Type 0 where
+    pub schema : d.schema ≡ c.schema
+    pub change : P (held_in view c) (held_in view d)

@@ -1,23 +1,29 @@
 // The course of a case, and the steps that are entered in it.
-ghost use Rattle.std.specs.Prelude.{◌≡◌, Some};
+ghost use Rattle.std.specs.Prelude.{◌≡◌, Some, Ok};
 ghost use Rattle.model.specs.Entries.{entry_read};
 ghost use Rattle.case_record.specs.Entries.{entries_in};
 ghost use Rattle.agreement.specs.Laws.{no_facts};
+ghost use Rattle.marking.specs.Markings.{MarkingOf};
+ghost use Rattle.marking.specs.States.{state_in};
 ghost use Rattle.history.specs.Stores.{cleared};
-ghost use Rattle.lives.specs.Calls.{held, entered, taken, entries_taken};
+ghost use Rattle.lives.specs.Calls.{held, entered, repeated, taken, entries_taken};
+ghost use Rattle.lives.specs.Lives.{Leaves};
 ghost use Rattle.entering.specs.Changes.{Changed, Reached};
-ghost use Rattle.entering.specs.Courses.{schema_of, held_in};
+ghost use Rattle.entering.specs.Courses.{schema_of, held_in, Becomes};
 
 use case_record::{CaseRecord, RawEntry};
 use facts::Facts;
 use history::Store;
 use lives::CallRefusal;
-use model::Entry;
+use marking::marking::{Marking, node_state};
 use model::refusal::StepRefusal;
+use model::{Entry, State};
+use rounds::nodes::round_of;
 use runs::steps::step;
 use schema::schema::Schema;
 
-// What has happened on a schema: the facts of its nodes, and the history that a store keeps.
+// What has happened on a schema: the facts of its nodes, and the history that a store keeps. No `impl Model`: a case gives the
+// store itself back, and a model would show only what it means.
 #[derive(Drop)]
 pub struct Course<'s, S: Store> {
     pub schema: &'s Schema,
@@ -26,23 +32,49 @@ pub struct Course<'s, S: Store> {
 }
 
 impl<'s, S: Store> Course<'s, S> {
+    // A course on this schema, begun; what the store held is cleared.
+    pub fn new(schema: &'s Schema, store: S) -> Course<'s, S>
+        ensures begun { held_in S.view result ≡ held no_facts (cleared (S.view store)) }
+        ensures schema { result.schema.now ≡ schema.now }
+    {
+        let mut course = Course {
+            schema,
+            facts: Facts::none(),
+            store,
+        };
+        course.begin();
+        course
+    }
+
     // Nothing has happened yet.
     pub fn begin(&mut self)
-        ensures begun { held_in S.view self.new ≡ held no_facts (cleared (S.view self.old.store)) }
-        ensures schema { self.new.schema ≡ self.old.schema }
+        ensures { Becomes S.view (λ h k. k ≡ held no_facts (cleared h.store)) self.old self.new }
     {
         self.facts = Facts::none();
         self.store.clear();
     }
 
+    // The states of all nodes, the decided branches, and whether all has ended.
+    pub fn marking(&self) -> Marking
+        ensures { MarkingOf (schema_of self.now).row (schema_of self.now).edges self.now.facts result }
+    {
+        Marking::of(self.schema, &self.facts)
+    }
+
+    // The state of one node, if the schema has it.
+    pub fn state(&self, id: u8) -> Option<State>
+        ensures { result ≡ state_in (schema_of self.now).row (schema_of self.now).edges self.now.facts id }
+    {
+        node_state(self.schema, &self.facts, id)
+    }
+
     // Takes a step that the schema allows and for which the store has a place; the place told is that in a record.
     pub fn enter(&mut self, place: Option<usize>, entry: Entry) -> Result<(), CallRefusal>
-        ensures change { Changed (entered (schema_of self.old) place entry (held_in S.view self.old)) (held_in S.view self.old) (held_in S.view self.new) result }
-        ensures schema { self.new.schema ≡ self.old.schema }
+        ensures { Becomes S.view (λ h k. Changed (entered (schema_of self.old) place entry h) h k result) self.old self.new }
     {
         let id = entry.id();
         let mut next = self.facts;
-        step(self.schema, &mut next, entry).map_err(|refusal| refusal.of(place, id))?;
+        step(self.schema, &mut next, entry).map_err(|refusal| refusal.at(place, id))?;
         self.store
             .add(entry)
             .map_err(|_| CallRefusal::Store { place, id })?;
@@ -50,12 +82,28 @@ impl<'s, S: Store> Course<'s, S> {
         Ok(())
     }
 
+    // Goes round once more in the loop of an Activated test: what happened between its start and its end is forgotten.
+    pub fn repeat(&mut self, test: u8) -> Result<(), CallRefusal>
+        ensures after { Becomes S.view (λ h k. Changed (repeated S.Cost.PLACES (schema_of self.old) test k.store.free h) h k result) self.old self.new }
+        ensures bounds { result ≡ Ok tt → Leaves S.Cost.PLACES test (S.view self.new.store).free (schema_of self.old) (S.view self.old.store) }
+    {
+        // it needs what leaving needs, and leaves no fact
+        let mut left = self.facts;
+        step(self.schema, &mut left, Entry::Leave(test)).map_err(|refusal| refusal.at(None, test))?;
+        let round = round_of(self.schema, test);
+        self.store.purge(round).map_err(|_| CallRefusal::Store {
+            place: None,
+            id: test,
+        })?;
+        self.facts.forget(round);
+        Ok(())
+    }
+
     // Takes the step that the bytes at a place of a record say; bytes that say none are refused.
     pub fn take(&mut self, place: usize, raw: RawEntry) -> Result<(), CallRefusal>
-        ensures change { Changed (taken (schema_of self.old) place raw (held_in S.view self.old) (entry_read raw.kind raw.id raw.branch)) (held_in S.view self.old) (held_in S.view self.new) result }
-        ensures schema { self.new.schema ≡ self.old.schema }
+        ensures { Becomes S.view (λ h k. Changed (taken (schema_of self.old) place raw h (entry_read raw.kind raw.id raw.branch)) h k result) self.old self.new }
     {
-        let entry = Entry::try_from(raw).map_err(|unspelled| StepRefusal::from(unspelled).of(
+        let entry = Entry::try_from(raw).map_err(|unspelled| StepRefusal::from(unspelled).at(
             Some(place),
             raw.id,
         ))?;
@@ -64,12 +112,11 @@ impl<'s, S: Store> Course<'s, S> {
 
     // Takes the steps of a record, each judged in full before the next, up to the first that is refused.
     pub fn take_all(&mut self, history: CaseRecord<'_>) -> Result<(), CallRefusal>
-        ensures after { Reached (entries_taken (schema_of self.old) 0 (entries_in history.entry.entries.now) (held_in S.view self.old)) (held_in S.view self.new) result }
+        ensures after { Becomes S.view (λ h k. Reached (entries_taken (schema_of self.old) 0 (entries_in history.entry.entries.now) h) k result) self.old self.new }
         ensures capacity { (S.view self.new.store).capacity ≡ (S.view self.old.store).capacity }
-        ensures schema { self.new.schema ≡ self.old.schema }
     {
-        for (place, &bytes) in history.pieces().iter().enumerate() {
-            self.take(place, RawEntry::from(bytes))?;
+        for (place, raw) in history.iter().enumerate() {
+            self.take(place, raw)?;
         }
         Ok(())
     }

@@ -2,7 +2,6 @@
 ghost use Rattle.std.specs.Prelude.{◌≡◌, ℕ, ◌&&◌, None, slice_index_or};
 ghost use Rattle.ids.specs.Sets.{has, is_id};
 ghost use Rattle.schema.specs.Schemas.{parts};
-ghost use Rattle.facts.specs.Facts.{facts_by_id};
 ghost use Rattle.lives.specs.Offers.{is_activity, is_activated, offers};
 
 use facts::Facts;
@@ -23,7 +22,7 @@ fn offered_of(element: Element, marking: &Marking) -> Option<u8>
 
 // The Activated activities.
 pub fn activated_activities(schema: &Schema, facts: &Facts) -> IdSet
-    ensures { (id : ℕ) → has result id ≡ offers (parts schema.now) (facts_by_id facts.now) id }
+    ensures { (id : ℕ) → has result id ≡ offers (parts schema.now) facts.now id }
 {
     let marking = Marking::of(schema, facts);
     let row = schema.row();

@@ -1,6 +1,6 @@
 -- When a step is entered, and what it leaves. Assumes nothing.
-use Rattle.std.proofs.Common.{◌≡◌, ℕ, ◌+◌, ◌-◌, ◌<◌, ◌≤◌, Bool, true, false, cond, eqb, List, [], ◌∷◌, ◌++◌, length, get_or, drop, set, Some, None, Ok, Err, Option, Result, sym, refl, ap, ◌∙◌, subst, arith}
-use Rattle.std.proofs.lemmas.List.{append_assoc, append-nil, at_drop_more}
+use Rattle.std.proofs.Common.{◌≡◌, ℕ, ◌+◌, ◌-◌, ◌<◌, ◌≤◌, Bool, true, false, cond, eqb, List, [], ◌∷◌, ◌++◌, length, set, Some, None, Ok, Err, Option, Result, sym, refl, ap, ◌∙◌, subst, arith}
+use Rattle.std.proofs.lemmas.List.{append_assoc, append-nil}
 use Rattle.std.proofs.lemmas.Bool.{eqb-false, ne_eqb}
 use Rattle.model.specs.declared.Entry.{Entry}
 use Rattle.model.specs.declared.Fact.{Fact}
@@ -18,7 +18,7 @@ use Rattle.lives.specs.Calls.{Held, held, by_store, by_schema, entered, taken, a
 use Rattle.lives.specs.Lives.{with_entry, entries_read}
 
 err_ok : {A : Type 0} {P : Type 0} (r : CallRefusal) (a : A) → ◌≡◌ {A = Result A CallRefusal} (Err r) (Ok a) → P
-err_ok r a e = absurd (let z : ◌≡◌ {A = ℕ} 0 1 = cc in omega arith)
+err_ok r a e = absurd cc
 
 -- the store with one entry more
 abbrev more : Entry → StoreView → StoreView
@@ -130,9 +130,6 @@ module _ (S : SchemaParts) (h : Held) where
   taken_capacity p r None k q = err_ok _ k q
   taken_capacity p r (Some e) k q = (was_entered S (Some p) e h k q).capacity
 
-  pub taken_at : (rs : List RawEntry) (p : ℕ) (r d : RawEntry) → p < length rs → r ≡ get_or rs p d → (o : Result Held CallRefusal)
-      → taken S p r h (entry_read r.kind r.id r.branch) ≡ o → entries_taken S p (drop p rs) h ≡ and_then o (entries_taken S (p + 1) (drop (p + 1) rs))
-  taken_at rs p r d less is o q =
-      at_drop_more (λ qs. entries_taken S p qs h) rs p d less
-      ∙ ap (λ x. and_then (taken S p x h (entry_read x.kind x.id x.branch)) (entries_taken S (p + 1) (drop (p + 1) rs))) (sym is)
-      ∙ ap (λ t. and_then t (entries_taken S (p + 1) (drop (p + 1) rs))) q
+  pub taken_first : (rs : List RawEntry) (p : ℕ) (r : RawEntry) (rest : List RawEntry) → rs ≡ r ∷ rest → (o : Result Held CallRefusal)
+      → taken S p r h (entry_read r.kind r.id r.branch) ≡ o → entries_taken S p rs h ≡ and_then o (entries_taken S (p + 1) rest)
+  taken_first rs p r rest is o q = ap (λ qs. entries_taken S p qs h) is ∙ ap (λ t. and_then t (entries_taken S (p + 1) rest)) q

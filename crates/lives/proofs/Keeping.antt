@@ -77,8 +77,13 @@ module _ (cost : ℕ) where
     abbrev body : ℕ → Bool
     body = in_round v.progress.schema.row i
 
-    by_places : (b : Bool) → Allowed v.progress.schema v.progress.facts (Leave i)
-        → Kept (if_accepted (by_purge i free v (cond b refusal (Ok tt))).answer (outside body H) H) (by_purge i free v (cond b refusal (Ok tt))).after
+    abbrev has : Held
+    has = held v.progress.facts v.store
+
+    abbrev Left : Result Held CallRefusal → Type 0
+    Left o = Kept (if_accepted (by_held v o).answer (outside body H) H) (by_held v o).after
+
+    by_places : (b : Bool) → Allowed v.progress.schema v.progress.facts (Leave i) → Left (by_purge v.progress.schema i free has (cond b refusal (Ok tt)))
     by_places true a = k
     by_places false a = record {
       checked = k.checked;
@@ -87,8 +92,7 @@ module _ (cost : ℕ) where
       offered = refl;
     }
 
-    by_left : (o : Result (List Fact) StepRefusal) → step_in v.progress.schema v.progress.facts (Leave i) ≡ o
-        → Kept (if_accepted (by_test cost i free v o).answer (outside body H) H) (by_test cost i free v o).after
+    by_left : (o : Result (List Fact) StepRefusal) → step_in v.progress.schema v.progress.facts (Leave i) ≡ o → Left (by_test cost v.progress.schema i free has o)
     by_left (Ok gs) q = by_places (ltb v.store.free cost) (step_allowed v.progress.schema v.progress.facts (Leave i) gs q).0
     by_left (Err r) q = k
 
@@ -99,7 +103,7 @@ module _ (cost : ℕ) where
   kept (repeats {H} {v} i free b l) = by_left H v i free (kept l) (step_in v.progress.schema v.progress.facts (Leave i)) refl
 
 err_ok : {P : Type 0} (r : CallRefusal) → ◌≡◌ {A = Result (Unit {0}) CallRefusal} (Err r) (Ok tt) → P
-err_ok r e = absurd (let z : ◌≡◌ {A = ℕ} 0 1 = cc in omega arith)
+err_ok r e = absurd cc
 
 -- when calls are accepted
 module _ {H : List Entry} {v : CaseView} (k : Kept H v) where
@@ -129,18 +133,18 @@ module _ {H : List Entry} {v : CaseView} (k : Kept H v) where
   pub agains_have_cause : (cost : ℕ) → AgainsHaveCause cost v
   agains_have_cause cost i free = (forth (step_in S fs (Leave i)) refl, back)
     where
-      by_places : (b : Bool) → ltb v.store.free cost ≡ b → (by_purge i free v (cond b refusal (Ok tt))).answer ≡ Ok tt → cost ≤ v.store.free
+      by_places : (b : Bool) → ltb v.store.free cost ≡ b → (by_held v (by_purge S i free (held fs v.store) (cond b refusal (Ok tt)))).answer ≡ Ok tt → cost ≤ v.store.free
       by_places true f a = err_ok _ a
       by_places false f a = ltb-false v.store.free cost f
 
-      forth : (o : Result (List Fact) StepRefusal) → step_in S fs (Leave i) ≡ o → (by_test cost i free v o).answer ≡ Ok tt → Allowed S fs (Leave i) × (cost ≤ v.store.free)
+      forth : (o : Result (List Fact) StepRefusal) → step_in S fs (Leave i) ≡ o → (by_held v (by_test cost S i free (held fs v.store) o)).answer ≡ Ok tt → Allowed S fs (Leave i) × (cost ≤ v.store.free)
       forth (Err r) q a = err_ok _ a
       forth (Ok gs) q a = ((step_allowed S fs (Leave i) gs q).0, by_places (ltb v.store.free cost) refl a)
 
       back : Allowed S fs (Leave i) × (cost ≤ v.store.free) → (again_outcome cost i free v).answer ≡ Ok tt
       back (a, less) =
-          ap (λ o. (by_test cost i free v o).answer) (allowed_step S fs (Leave i) a)
-          ∙ ap (λ b. (by_purge i free v (cond b refusal (Ok tt))).answer) (le-ltb v.store.free cost less)
+          ap (λ o. (by_held v (by_test cost S i free (held fs v.store) o)).answer) (allowed_step S fs (Leave i) a)
+          ∙ ap (λ b. (by_held v (by_purge S i free (held fs v.store) (cond b refusal (Ok tt)))).answer) (le-ltb v.store.free cost less)
 
 module _ (v : CaseView) (line : List ℕ) where
   abbrev on : SchemaParts

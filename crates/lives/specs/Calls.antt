@@ -18,7 +18,7 @@ use Rattle.case_record.specs.declared.RawEntry.{RawEntry}
 use Rattle.case_record.specs.CaseRecords.{RawCase, case_in}
 use Rattle.runs.specs.Steps.{step_in}
 use Rattle.agreement.specs.Laws.{no_facts}
-use Rattle.bounded.specs.declared.methods.Full.{Full}
+use Rattle.bounded.specs.declared.Full.{Full}
 use Rattle.history.specs.Stores.{StoreView, cleared, add_answer, added, purge_answer}
 use Rattle.rounds.specs.Rounds.{in_round, outside}
 use Rattle.lives.specs.Views.{CaseView, in_progress}
@@ -42,7 +42,7 @@ opened_on n S s = in_progress n S no_facts (cleared s)
 abbrev pub opened : ℕ → CaseView → CaseView
 opened n v = opened_on n v.progress.schema v.store
 
--- What a step changes: the facts and the store.
+-- What a call changes: the facts and the store.
 pub record Held : Type 0 where
   pub facts : List Fact
   pub store : StoreView
@@ -75,18 +75,21 @@ step_outcome e v = by_held v (entered v.progress.schema None e (held v.progress.
 abbrev pub dropped : SchemaParts → ℕ → ℕ → StoreView → StoreView
 dropped S i free s = record { list = outside (in_round S.row i) s.list; free = free; capacity = s.capacity }
 
-abbrev pub by_purge : ℕ → ℕ → CaseView → Result (Unit {0}) Full → Outcome
-by_purge i free v (Ok u) =
-    accepted (in_progress v.number v.progress.schema (reset (in_round v.progress.schema.row i) v.progress.facts) (dropped v.progress.schema i free v.store))
-by_purge i free v (Err f) = refused (call.Store None i) v
+abbrev pub by_purge : SchemaParts → ℕ → ℕ → Held → Result (Unit {0}) Full → Result Held CallRefusal
+by_purge S i free h (Ok u) = Ok (held (reset (in_round S.row i) h.facts) (dropped S i free h.store))
+by_purge S i free h (Err f) = Err (call.Store None i)
 
 -- Again needs what leaving needs: an Activated test.
-abbrev pub by_test : ℕ → ℕ → ℕ → CaseView → Result (List Fact) StepRefusal → Outcome
-by_test cost i free v (Ok gs) = by_purge i free v (purge_answer cost v.store)
-by_test cost i free v (Err k) = refused (call.Case (case.Step None i k)) v
+abbrev pub by_test : ℕ → SchemaParts → ℕ → ℕ → Held → Result (List Fact) StepRefusal → Result Held CallRefusal
+by_test cost S i free h (Ok gs) = by_purge S i free h (purge_answer cost h.store)
+by_test cost S i free h (Err k) = Err (call.Case (case.Step None i k))
+
+-- One more round of the loop with test i, where a purge costs so much and leaves `free` places free.
+abbrev pub repeated : ℕ → SchemaParts → ℕ → ℕ → Held → Result Held CallRefusal
+repeated cost S i free h = by_test cost S i free h (step_in S h.facts (Leave i))
 
 abbrev pub again_outcome : ℕ → ℕ → ℕ → CaseView → Outcome
-again_outcome cost i free v = by_test cost i free v (step_in v.progress.schema v.progress.facts (Leave i))
+again_outcome cost i free v = by_held v (repeated cost v.progress.schema i free (held v.progress.facts v.store))
 
 -- The entry that the bytes at place p spell.
 abbrev pub taken : SchemaParts → ℕ → RawEntry → Held → Option Entry → Result Held CallRefusal

@@ -4,9 +4,10 @@ use Rattle.std.specs.Prelude.{◌≡◌, ℕ, ◌+◌, ◌≤◌, List, [], ◌�
 use Rattle.model.specs.declared.Entry.{Entry}
 use Rattle.lives.specs.declared.CallRefusal.{CallRefusal}
 use Rattle.model.specs.Entries.{entry_read}
-use Rattle.schema.specs.Checks.{Admitted}
+use Rattle.schema.specs.Checks.{SchemaParts, Admitted}
 use Rattle.case_record.specs.declared.RawEntry.{RawEntry}
 use Rattle.case_record.specs.CaseRecords.{RawCase, case_in}
+use Rattle.history.specs.Stores.{StoreView}
 use Rattle.rounds.specs.Rounds.{in_round, outside}
 use Rattle.lives.specs.Views.{CaseView}
 use Rattle.lives.specs.Calls.{opened, step_outcome, again_outcome, load_outcome}
@@ -48,9 +49,9 @@ abbrev pub repeated_history : ℕ → ℕ → ℕ → CaseView → List Entry �
 repeated_history cost i free v H = if_accepted (again_outcome cost i free v).answer (outside (in_round v.progress.schema.row i) H) H
 
 -- The free places that a purge may leave: it takes no more than it costs, and leaves room for what stays.
-pub record Leaves (cost i free : ℕ) (v : CaseView) : Type 0 where
-  pub cheap : v.store.free ≤ free + cost
-  pub within : free + length (outside (in_round v.progress.schema.row i) v.store.list) ≤ v.store.capacity
+pub record Leaves (cost i free : ℕ) (S : SchemaParts) (s : StoreView) : Type 0 where
+  pub cheap : s.free ≤ free + cost
+  pub within : free + length (outside (in_round S.row i) s.list) ≤ s.capacity
 
 -- A life begins by opening or loading, on any schema that passed the checks, whatever number, facts, store and worklist were
 -- before; it goes on with steps and agains, accepted or refused.
@@ -58,5 +59,5 @@ pub data Life (cost : ℕ) : List Entry → CaseView → Type 0 where
   opens : (v : CaseView) (n : ℕ) → Admitted v.progress.schema → Life cost opened_history (opened n v)
   loads : (v : CaseView) (line : List ℕ) → Admitted v.progress.schema → Life cost (loaded_history line v) (load_outcome line v).after
   steps : {H : List Entry} {v : CaseView} (e : Entry) → Life cost H v → Life cost (stepped_history e v H) (step_outcome e v).after
-  repeats : {H : List Entry} {v : CaseView} (i free : ℕ) → ((again_outcome cost i free v).answer ≡ Ok tt → Leaves cost i free v) → Life cost H v
+  repeats : {H : List Entry} {v : CaseView} (i free : ℕ) → ((again_outcome cost i free v).answer ≡ Ok tt → Leaves cost i free v.progress.schema v.store) → Life cost H v
       → Life cost (repeated_history cost i free v H) (again_outcome cost i free v).after

@@ -7,9 +7,11 @@ ghost use Rattle.lives.specs.Laws.{LivesKeepTheirPromises};
 ghost use Rattle.lives.specs.Refusals.{call_reason};
 
 use model::refusal::{CaseRefusal, Reason};
+use std::error::Error;
+use std::fmt;
 
 // Why a call on a case was refused: as the replay of a record refuses its line or a step, or since the store has no place.
-#[derive(Clone, Copy, PartialEq, Eq)]
+#[derive(Clone, Copy, PartialEq, Eq, Debug)]
 pub enum CallRefusal {
     Case(CaseRefusal),
     // a step that is no entry of a record has no place
@@ -42,6 +44,16 @@ impl From<CallRefusal> for Reason {
     }
 }
 
+// It prints as its reason.
+impl fmt::Display for CallRefusal {
+    fn fmt<W: fmt::Write>(&self, f: &mut fmt::Formatter<W>) -> fmt::Result {
+        write!(f, "{}", Reason::from(*self))
+    }
+}
+
+impl Error for CallRefusal {}
+
+#[tactic(auto, using(crate::proofs::Keeping::promises_kept))]
 pub fn lives_keep_their_promises()
     ensures { LivesKeepTheirPromises }
 {}

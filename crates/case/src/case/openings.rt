@@ -10,7 +10,6 @@ ghost use Rattle.case.specs.CaseViews.{view_of, emptied};
 use crate::case::Case;
 use case_record::CaseRecord;
 use entering::course::Course;
-use facts::Facts;
 use history::Store;
 use lives::CallRefusal;
 use model::refusal::CaseRefusal;
@@ -24,13 +23,8 @@ impl<'s, S: Store, W: Worklist> Case<'s, S, W> {
         ensures after { view_of S.view W.offered result ≡ opened_on number (parts schema.now) (S.view store) }
         ensures life { Life S.Cost.PLACES opened_history (view_of S.view W.offered result) }
     {
-        let course = Course {
-            schema,
-            facts: Facts::none(),
-            store,
-        };
         let mut case = Case {
-            course,
+            course: Course::new(schema, store),
             worklist,
             number,
         };

@@ -1,14 +1,12 @@
 // What a case tells; nothing changes by it.
 ghost use Rattle.std.specs.Prelude.{◌≡◌};
-ghost use Rattle.schema.specs.Schemas.{parts};
-ghost use Rattle.facts.specs.Facts.{facts_by_id};
 ghost use Rattle.marking.specs.Markings.{MarkingOf};
 ghost use Rattle.marking.specs.States.{state_in, finished_in};
+ghost use Rattle.entering.specs.Courses.{schema_of};
 
 use crate::case::Case;
 use history::Store;
 use marking::marking::Marking;
-use marking::marking::methods::node_state;
 use model::State;
 use schema::schema::Schema;
 use worklist::Worklist;
@@ -16,20 +14,20 @@ use worklist::Worklist;
 impl<'s, S: Store, W: Worklist> Case<'s, S, W> {
     // The states of all nodes, the decided branches, and whether the case is finished.
     pub fn marking(&self) -> Marking
-        ensures { MarkingOf (parts self.now.course.schema.now).row (parts self.now.course.schema.now).edges (facts_by_id self.now.course.facts) result }
+        ensures { MarkingOf (schema_of self.now.course).row (schema_of self.now.course).edges self.now.course.facts result }
     {
-        Marking::of(self.course.schema, &self.course.facts)
+        self.course.marking()
     }
 
     // The state of one node, if the schema has it.
     pub fn state(&self, id: u8) -> Option<State>
-        ensures { result ≡ state_in (parts self.now.course.schema.now).row (parts self.now.course.schema.now).edges (facts_by_id self.now.course.facts) id }
+        ensures { result ≡ state_in (schema_of self.now.course).row (schema_of self.now.course).edges self.now.course.facts id }
     {
-        node_state(self.course.schema, &self.course.facts, id)
+        self.course.state(id)
     }
 
     pub fn is_finished(&self) -> bool
-        ensures { result ≡ finished_in (parts self.now.course.schema.now).row (facts_by_id self.now.course.facts) }
+        ensures { result ≡ finished_in (schema_of self.now.course).row self.now.course.facts }
     {
         self.marking().is_finished()
     }

@@ -3,6 +3,7 @@ ghost use Rattle.std.specs.Prelude.{◌≡◌, Ok};
 ghost use Rattle.model.specs.declared.Entry.TheVariants.{Start, End, Choose, Leave};
 ghost use Rattle.lives.specs.Calls.{step_outcome, again_outcome};
 ghost use Rattle.lives.specs.Lives.{Leaves, stepped_history, repeated_history};
+ghost use Rattle.entering.specs.Courses.{schema_of};
 ghost use Rattle.case.specs.CaseViews.{view_of, refreshed, Continues};
 
 use crate::case::Case;
@@ -10,10 +11,10 @@ use entering::offers::activated_activities;
 use history::Store;
 use lives::CallRefusal;
 use model::Entry;
-use rounds::nodes::round_of;
-use runs::steps::step;
 use worklist::{Worklist, bring_in_step};
 
+// Each call states its answer and the view after it, the values themselves, in two clauses: one name for both would be a
+// name for a set of values.
 impl<'s, S: Store, W: Worklist> Case<'s, S, W> {
     // Brings the worklist in step with the facts.
     pub(crate) fn refresh(&mut self)
@@ -75,23 +76,10 @@ impl<'s, S: Store, W: Worklist> Case<'s, S, W> {
     pub fn again(&mut self, test: u8) -> Result<(), CallRefusal>
         ensures answer { result ≡ (again_outcome S.Cost.PLACES test (S.view self.new.course.store).free (view_of S.view W.offered self.old)).answer }
         ensures after { view_of S.view W.offered self.new ≡ (again_outcome S.Cost.PLACES test (S.view self.new.course.store).free (view_of S.view W.offered self.old)).after }
-        ensures bounds { result ≡ Ok tt → Leaves S.Cost.PLACES test (S.view self.new.course.store).free (view_of S.view W.offered self.old) }
+        ensures bounds { result ≡ Ok tt → Leaves S.Cost.PLACES test (S.view self.new.course.store).free (schema_of self.old.course) (S.view self.old.course.store) }
         ensures life { Continues S.Cost.PLACES (repeated_history S.Cost.PLACES test (S.view self.new.course.store).free) (view_of S.view W.offered self.old) (view_of S.view W.offered self.new) }
     {
-        // it needs what leaving needs, and leaves no fact
-        let mut left = self.course.facts;
-        step(self.course.schema, &mut left, Entry::Leave(test)).map_err(|refusal| refusal.of(
-            None, test,
-        ))?;
-        let round = round_of(self.course.schema, test);
-        self.course
-            .store
-            .purge(round)
-            .map_err(|_| CallRefusal::Store {
-                place: None,
-                id: test,
-            })?;
-        self.course.facts.forget(round);
+        self.course.repeat(test)?;
         self.refresh();
         Ok(())
     }
