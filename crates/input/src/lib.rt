@@ -2,7 +2,7 @@
 #![tactic(auto)]
 
 ghost use Rattle.std.specs.Prelude.{◌≡◌, false, [], IfOk};
-ghost use Rattle.record.specs.Lines.{held, Short};
+ghost use Rattle.record.specs.Lines.{Short};
 ghost use Rattle.input.specs.Chunks.{filled, parted};
 
 use record::LineBuffer;
@@ -17,7 +17,7 @@ mod tests;
 // to the caller to count what ends no line.
 pub fn fill(line: &mut LineBuffer, chunk: &[u8]) -> (usize, bool)
     ensures value { result ≡ parted 0 chunk.now }
-    ensures after { held line.new ≡ filled (held line.old) chunk.now }
+    ensures after { line.new ≡ filled line.old chunk.now }
 {
     for (i, &character) in chunk.iter().enumerate() {
         if character == b'\n' {
@@ -30,7 +30,7 @@ pub fn fill(line: &mut LineBuffer, chunk: &[u8]) -> (usize, bool)
 
 // Reads the next line, without its newline; `false` where the input has ended. A last line needs no newline.
 pub fn next_line<R: BufRead>(input: &mut R, line: &mut LineBuffer) -> io::Result<bool>
-    ensures { IfOk result (λ more. (more ≡ false → held line.new ≡ Short [])) }
+    ensures { IfOk result (λ more. (more ≡ false → line.new ≡ Short [])) }
 {
     line.clear();
     let mut begun = false;

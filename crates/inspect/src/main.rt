@@ -2,7 +2,6 @@
 #![tactic(auto)]
 
 use input::next_line;
-use model::refusal::Reason;
 use outline::Outline;
 use record::LineBuffer;
 use schema::schema::Schema;
@@ -25,10 +24,7 @@ fn show<W: Write>(out: &mut W, heap: Global, number: u64, line: &LineBuffer) -> 
             let outline = Outline(&schema);
             write!(out, "{outline}")?;
         }
-        Err(refusal) => {
-            let reason = Reason::from(refusal);
-            writeln!(out, "line {number}: {reason}")?;
-        }
+        Err(refusal) => writeln!(out, "line {number}: {refusal}")?,
     }
     Ok(())
 }
@@ -37,7 +33,7 @@ fn run(rt: &HostRuntime) -> anyhow::Result<()> {
     let mut input = BufReader::new(rt.alloc(), rt.stdin())?;
     let mut out = BufWriter::new(rt.alloc(), rt.stdout())?;
     let mut line = LineBuffer::new();
-    // a count, since input may never end and each loop is proved to end
+    // a count, since input may never end and each loop is proved to end; a type of lines for `replay` too would not spare it
     for number in 1..u64::MAX {
         if !next_line(&mut input, &mut line)? {
             break;

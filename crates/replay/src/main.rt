@@ -1,11 +1,11 @@
 // Replays cases on a schema, entry by entry. The first line of standard input is the schema, the others are cases.
 #![tactic(auto)]
 
-use case_record::{CaseRecord, RawEntry};
+use case_record::CaseRecord;
 use facts::Facts;
 use input::next_line;
 use marking::marking::Marking;
-use model::refusal::{CaseRefusal, Reason};
+use model::refusal::CaseRefusal;
 use model::{Entry, State};
 use record::{LineBuffer, Record};
 use runs::histories::run;
@@ -31,7 +31,7 @@ impl<'a> Nodes<'a> {
 impl fmt::Display for Nodes<'_> {
     fn fmt<W: fmt::Write>(&self, f: &mut fmt::Formatter<W>) -> fmt::Result {
         let mut none = true;
-        // over all ids: a marking has no items to go over
+        // over all ids: a marking is asked by id, and lists none
         for id in 0..64u8 {
             if self.marking.state(id) == Some(self.state) {
                 none = false;
@@ -82,8 +82,8 @@ impl Replay<'_, '_> {
     // A line for each entry up to the first that is refused: its place, what it is, and what is activated after it.
     fn trace<W: fmt::Write>(&self, f: &mut fmt::Formatter<W>) -> fmt::Result {
         let mut facts = Facts::none();
-        for (place, &bytes) in self.history.pieces().iter().enumerate() {
-            let Ok(entry) = Entry::try_from(RawEntry::from(bytes)) else {
+        for (place, raw) in self.history.iter().enumerate() {
+            let Ok(entry) = Entry::try_from(raw) else {
                 return Ok(());
             };
             if step(self.schema, &mut facts, entry).is_err() {
@@ -100,6 +100,7 @@ impl Replay<'_, '_> {
 impl fmt::Display for Replay<'_, '_> {
     fn fmt<W: fmt::Write>(&self, f: &mut fmt::Formatter<W>) -> fmt::Result {
         self.trace(f)?;
+        // the history goes through a second time: what it came to is told by `run`, which is proved of all its entries
         let mut facts = Facts::none();
         let ran = run(self.schema, &mut facts, self.history);
         let number = self.history.number;
@@ -110,28 +111,29 @@ impl fmt::Display for Replay<'_, '_> {
                 let summary = Summary(&marking);
                 writeln!(f, "case {number}: runs, {entries} entries; {summary}")
             }
-            Err(refusal) => writeln!(f, "case {number}: {}", Reason::from(refusal)),
+            Err(refusal) => writeln!(f, "case {number}: {refusal}"),
         }
     }
 }
 
 // What is told of a line that says no case, or of any line after a refused schema.
-fn refuse<W: Write, R: Into<Reason>>(out: &mut W, refusal: R) -> anyhow::Result<()> {
-    let reason = refusal.into();
-    writeln!(out, "case 0: {reason}")?;
+fn refuse<W: Write, R: fmt::Display>(out: &mut W, refusal: &R) -> anyhow::Result<()> {
+    writeln!(out, "case 0: {refusal}")?;
     Ok(())
 }
 
-// Replays the case that a line says, or tells that it says none: in three steps, since each borrows from the one before.
+// The record that a line spells, if it spells one.
+fn record_of(line: &LineBuffer) -> Option<Record> {
+    Record::try_from(line.line()?).ok()
+}
+
+// Replays the case that a line says, or tells that it says none: in two steps, since the case borrows from the record.
 fn replay_line<W: Write>(out: &mut W, schema: &Schema, line: &LineBuffer) -> anyhow::Result<()> {
-    let Some(characters) = line.line() else {
-        return refuse(out, CaseRefusal::Line);
-    };
-    let Ok(record) = Record::try_from(characters) else {
-        return refuse(out, CaseRefusal::Line);
+    let Some(record) = record_of(line) else {
+        return refuse(out, &CaseRefusal::Line);
     };
     let Ok(history) = CaseRecord::try_from(record.bytes()) else {
-        return refuse(out, CaseRefusal::Line);
+        return refuse(out, &CaseRefusal::Line);
     };
     let replay = Replay { schema, history };
     write!(out, "{replay}")?;
@@ -147,14 +149,14 @@ fn run_all(rt: &HostRuntime) -> anyhow::Result<()> {
     }
     let space = Space::new(rt.alloc())?;
     let schema = Schema::read_buffered(space, &line);
-    // a count, since input may never end and each loop is proved to end
+    // a count, since input may never end and each loop is proved to end; a type of lines for `inspect` too would not spare it
     for _ in 0..u64::MAX {
         if !next_line(&mut input, &mut line)? {
             break;
         }
         match &schema {
             Ok(schema) => replay_line(&mut out, schema, &line)?,
-            Err(refusal) => refuse(&mut out, *refusal)?,
+            Err(refusal) => refuse(&mut out, refusal)?,
         }
     }
     out.flush()?;

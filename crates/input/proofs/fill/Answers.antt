@@ -1,6 +1,5 @@
 use Rattle.std.proofs.Common.{◌≡◌, ◌+◌, false, length, drop, sym, refl, ap, ◌∙◌, arith}
 use Rattle.std.proofs.lemmas.List.{at_drop_all}
-use Rattle.record.specs.Lines.{held}
 use Rattle.input.specs.Chunks.{parted, filled}
 use Rattle.input.proofs.Parts.{parted_end, parted_more, filled_end, filled_more}
 use Rattle.input.proofs.fill.Goals as goal
@@ -23,7 +22,7 @@ loop-i-preserved c =
     let h = c.loop-i-test.true in (
       c.loop-i.invariant.0 ∙ parted_more cs _ h c.if-character-eq10.false,
       c.loop-i.invariant.1
-          ∙ filled_more cs _ h (held c.loop-i.line) c.if-character-eq10.false
+          ∙ filled_more cs _ h c.loop-i.line c.if-character-eq10.false
           ∙ ap (λ w. filled w (drop (c.loop-i.i + 1) cs)) (sym c.push.ensures.value),
     )
 
@@ -34,5 +33,5 @@ returns c =
     let all : c.loop-i.i ≡ length cs = omega arith in
     record {
       value = sym (c.loop-i.invariant.0 ∙ at_drop_all (parted c.loop-i.i) cs _ past ∙ ap (λ n. (n, false)) all);
-      after = sym (c.loop-i.invariant.1 ∙ at_drop_all (filled (held c.loop-i.line)) cs _ past);
+      after = sym (c.loop-i.invariant.1 ∙ at_drop_all (filled c.loop-i.line) cs _ past);
     }
