@@ -7,6 +7,8 @@ ghost use Rattle.entry_log.specs.Backwards.{latest};
 ghost use Rattle.entry_log.specs.Logs.{log_view, log_within};
 
 mod records;
+#[cfg(test)]
+mod tests;
 
 use history::{EntryKind, Full, OnePlace, Store, is_of};
 use ids::IdSet;

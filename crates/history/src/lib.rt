@@ -7,6 +7,9 @@ ghost use Rattle.std.specs.List.{slice_get};
 ghost use Rattle.history.specs.Entries.{kind_of, is_of, last_place, before};
 ghost use Rattle.history.specs.Stores.{StoreView, refusal, cleared, add_answer, added, purge_answer, purged, PurgeBounds};
 
+#[cfg(test)]
+mod tests;
+
 pub use bounded::Full;
 use ids::IdSet;
 use model::Entry;

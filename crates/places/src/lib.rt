@@ -6,6 +6,8 @@ ghost use Rattle.history.specs.Stores.{refusal};
 ghost use Rattle.places.specs.AppendLists.{held, left, size, usage, pushed, push_answer};
 
 mod compaction;
+#[cfg(test)]
+mod tests;
 
 pub use compaction::compact;
 use history::Full;

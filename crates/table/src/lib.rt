@@ -6,6 +6,8 @@ ghost use Rattle.history.specs.Stores.{fresh};
 ghost use Rattle.table.specs.Tables.{table_view, Tight, table_within};
 
 pub mod laws;
+#[cfg(test)]
+mod tests;
 
 use history::{EntryKind, Full, NoPlace, Store, is_of};
 use ids::IdSet;
