@@ -1,0 +1,5 @@
+// Worked examples of cases.
+#![tactic(auto)]
+
+#[cfg(test)]
+mod tests;
