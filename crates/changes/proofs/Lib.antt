@@ -1,0 +1,10 @@
+pub mod Spots
+pub mod Widths
+pub mod Inserts
+pub mod Deletes
+pub mod Readings
+pub mod Wraps
+pub mod Activities
+pub mod Nests
+pub mod Edges
+pub mod Ids

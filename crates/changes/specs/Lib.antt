@@ -1,0 +1,5 @@
+pub mod Spellings
+pub mod Effects
+pub mod Changed
+pub mod Laws
+pub mod Kept
