@@ -5,7 +5,8 @@ use Rattle.std.specs.Prelude.{filter}
 use Rattle.model.specs.declared.Edge.{Edge}
 use Rattle.model.specs.Paths.{Leads, Listed}
 use Rattle.changes.specs.declared.Change.TheVariants.{DropEdge, Delete, Insert, InsertBeside, AddEdge}
-use Rattle.changes.specs.Effects.{same_edge, touches}
+use Rattle.edges.specs.Edges.{same}
+use Rattle.changes.specs.Effects.{touches}
 use Rattle.changes.specs.Kept.{EdgesStayOrAreAdded}
 
 module _ (u v : ℕ) (p : Edge → Bool) (S : Type 0) (tells : (e : Edge) → Leads u v e → (b : Bool) → p e ≡ b → (b ≡ true → S) × (S → b ≡ true)) where
@@ -30,15 +31,15 @@ module _ (u v : ℕ) (p : Edge → Bool) (S : Type 0) (tells : (e : Edge) → Le
       go false k f (inl l) = absurd (false≢true ((tells e l false k).1 s))
       go false k f (inr l) = f l
 
-same : (e f : Edge) (u v : ℕ) → Leads u v f → Leads u v e → same_edge e f ≡ true
-same e f u v h k = let a : f.source ≡ e.source = sym h.0 ∙ k.0 in let b : f.target ≡ e.target = sym h.1 ∙ k.1 in grind (arith, a, b)
+with_its_ends : (e f : Edge) (u v : ℕ) → Leads u v f → Leads u v e → same f e ≡ true
+with_its_ends e f u v h k = let a : f.source ≡ e.source = sym h.0 ∙ k.0 in let b : f.target ≡ e.target = sym h.1 ∙ k.1 in grind (arith, a, b)
 
-is_same : (e f : Edge) (u v : ℕ) → Leads u v f → same_edge e f ≡ true → Leads u v e
+is_same : (e f : Edge) (u v : ℕ) → Leads u v f → same f e ≡ true → Leads u v e
 is_same e f u v h k = (h.0 ∙ grind (arith, k), h.1 ∙ grind (arith, k))
 
 -- an edge from u to v goes exactly if those are the ends of the dropped one, or one of them is the deleted activity
-drops : (e : Edge) (u v : ℕ) (f : Edge) → Leads u v f → (b : Bool) → not (same_edge e f) ≡ b → (b ≡ true → Leads u v e → ⊥) × ((Leads u v e → ⊥) → b ≡ true)
-drops e u v f l true h = (λ _ k. grind (arith, same e f u v l k, h), λ _. refl)
+drops : (e : Edge) (u v : ℕ) (f : Edge) → Leads u v f → (b : Bool) → not (same f e) ≡ b → (b ≡ true → Leads u v e → ⊥) × ((Leads u v e → ⊥) → b ≡ true)
+drops e u v f l true h = (λ _ k. grind (arith, with_its_ends e f u v l k, h), λ _. refl)
 drops e u v f l false h = (λ k. absurd (false≢true k), λ k. absurd (k (is_same e f u v l (grind (arith, h)))))
 
 deletes : (a u v : ℕ) (f : Edge) → Leads u v f → (b : Bool) → not (touches a f) ≡ b → (b ≡ true → (u ≡ a) ⊎ (v ≡ a) → ⊥) × (((u ≡ a) ⊎ (v ≡ a) → ⊥) → b ≡ true)

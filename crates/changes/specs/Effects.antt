@@ -4,10 +4,11 @@
 --   row_after c xs       the row after change c
 --   edges_after c es     the edges after it
 -- Changed and Laws say what this means for the row's tree.
-use Rattle.std.specs.Prelude.{ℕ, ◌-◌, Bool, false, not, ◌&&◌, ◌||◌, List, [], ◌∷◌, ◌++◌, take, drop, filter, insert, ◌==◌}
+use Rattle.std.specs.Prelude.{ℕ, ◌-◌, Bool, false, not, ◌||◌, List, [], ◌∷◌, ◌++◌, take, drop, filter, insert, ◌==◌}
 use Rattle.model.specs.declared.Edge.{Edge}
 use Rattle.model.specs.declared.Element.{Element}
 use Rattle.model.specs.declared.Element.TheVariants.{Activity, AndSplit, Bar, AndJoin, XorSplit, XorJoin, LoopStart, LoopEnd}
+use Rattle.edges.specs.Edges.{same}
 use Rattle.changes.specs.declared.Change.{Change}
 use Rattle.changes.specs.declared.Change.TheVariants.{DropEdge, Delete, Insert, InsertBeside, AddEdge}
 
@@ -40,15 +41,12 @@ row_after (Insert a g) xs = insert xs g (Activity a)
 row_after (InsertBeside a b c) xs = wrapped a b c xs
 row_after (AddEdge e) xs = xs
 
-abbrev pub same_edge : Edge → Edge → Bool
-same_edge e f = (f.source == e.source) && (f.target == e.target)
-
 -- The edge leads from activity a or to it.
 abbrev pub touches : ℕ → Edge → Bool
 touches a e = (e.source == a) || (e.target == a)
 
 abbrev pub edges_after : Change → List Edge → List Edge
-edges_after (DropEdge e) es = filter (λ f. not (same_edge e f)) es
+edges_after (DropEdge e) es = filter (λ f. not (same f e)) es
 edges_after (Delete a) es = filter (λ e. not (touches a e)) es
 edges_after (Insert a g) es = es
 edges_after (InsertBeside a b c) es = es

@@ -5,7 +5,7 @@ use Rattle.std.proofs.lemmas.Bool.{eqb-true, false≢true}
 use Rattle.model.specs.declared.Element.{Element}
 use Rattle.model.specs.declared.Element.TheVariants.{Activity, AndSplit, Bar, AndJoin, XorSplit, XorJoin, LoopStart, LoopEnd}
 use Rattle.model.specs.Rows.{Bears, Among}
-use Rattle.lives.specs.Offers.{is_activity, has_activity}
+use Rattle.changes.specs.Effects.{is_activity, has_activity}
 
 activity_last : (xs : List Element) (x : Element) (id : ℕ) → has_activity (xs ++ x ∷ []) id ≡ (has_activity xs id || is_activity x id)
 activity_last [] x id = grind arith

@@ -2,7 +2,8 @@
 ghost use Rattle.std.specs.Prelude.{◌≡◌, ℕ, ◌&&◌, None, slice_index_or};
 ghost use Rattle.ids.specs.Sets.{has, is_id};
 ghost use Rattle.schema.specs.Schemas.{parts};
-ghost use Rattle.lives.specs.Offers.{is_activity, is_activated, offers};
+ghost use Rattle.changes.specs.Effects.{is_activity};
+ghost use Rattle.lives.specs.Offers.{is_activated, offers};
 
 use facts::Facts;
 use ids::IdSet;

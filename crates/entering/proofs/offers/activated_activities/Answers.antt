@@ -3,7 +3,8 @@ use Rattle.std.proofs.lemmas.List.{take_all}
 use Rattle.model.specs.declared.Element.TheVariants.{Activity}
 use Rattle.schema.specs.Schemas.{parts}
 use Rattle.schema.proofs.Checked.{checked_fine}
-use Rattle.lives.specs.Offers.{is_activity, has_activity, is_activated}
+use Rattle.changes.specs.Effects.{is_activity, has_activity}
+use Rattle.lives.specs.Offers.{is_activated}
 use Rattle.entering.proofs.Activities.{activity_more, activity_among}
 use Rattle.entering.proofs.offers.activated_activities.Goals as goal
 

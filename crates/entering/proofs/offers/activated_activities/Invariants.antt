@@ -1,7 +1,8 @@
 use Rattle.std.proofs.Common.{◌≡◌, ℕ, ◌&&◌, ltb, get_or, take, None}
 use Rattle.ids.specs.Sets.{has}
 use Rattle.schema.specs.Schemas.{parts}
-use Rattle.lives.specs.Offers.{has_activity, is_activated}
+use Rattle.changes.specs.Effects.{has_activity}
+use Rattle.lives.specs.Offers.{is_activated}
 use Rattle.entering.proofs.offers.activated_activities.Given as goal
 
 abbrev pub invariant-loop-element : goal.invariant-loop-element
