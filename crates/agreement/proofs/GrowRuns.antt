@@ -128,7 +128,7 @@ module _ (S : SchemaParts) (c : Checked S) where
       subst (λ us. Leqs us (signals gs start S.row)) (sym a) (subst (λ vs. Leqs (tree_signals fs n.0) vs) (sym b) (grow_tree fs gs n.0 F'))
 
   -- the own signal of a step's node
-  step_own : (fs : List Fact) (e : Entry) → Sound S.row fs → Allowed S fs e → own S.row (signals fs start S.row) 0 (entry_id e) ≡ option.Some True
+  pub step_own : (fs : List Fact) (e : Entry) → Sound S.row fs → Allowed S fs e → own S.row (signals fs start S.row) 0 (entry_id e) ≡ option.Some True
   step_own fs e s a = go (own S.row (signals fs start S.row) 0 (entry_id e)) refl a.state
     where
       go : (o : Option Signal) → own S.row (signals fs start S.row) 0 (entry_id e) ≡ o

@@ -46,7 +46,7 @@ own_stands (x ∷ xs) gs id g e = go (is_id (node_id x) id) refl e (own_stands x
     go true i h rec = inl ((decides_bears x id).0 i, cc)
     go false i h rec = inr (rec (sym (own_later xs gs 0 id) ∙ h))
 
-stands_among : (xs : List Element) (gs : List Signal) (id : ℕ) (g : Signal) → Stands xs gs id g → Among xs id
+pub stands_among : (xs : List Element) (gs : List Signal) (id : ℕ) (g : Signal) → Stands xs gs id g → Among xs id
 stands_among [] gs id g h = elim h [ ]
 stands_among (x ∷ xs) gs id g (inl h) = inl h.0
 stands_among (x ∷ xs) gs id g (inr h) = inr (stands_among xs (later gs) id g h)

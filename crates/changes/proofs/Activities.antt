@@ -52,7 +52,7 @@ module _ (a : ℕ) where
       ]
     ]
 
-  in_middle : (xs ys : List Element) → has_activity (xs ++ Activity a ∷ ys) a ≡ true
+  pub in_middle : (xs ys : List Element) → has_activity (xs ++ Activity a ∷ ys) a ≡ true
   in_middle [] ys = grind arith
   in_middle (x ∷ xs) ys = grind (arith, in_middle xs ys)
 

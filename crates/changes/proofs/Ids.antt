@@ -74,7 +74,7 @@ put_in : (a g : ℕ) (xs : List Element) → Put (Activity a) xs (row_after (Ins
 put_in a g xs = record { before = take g xs; after = drop g xs; was = sym (take-append-drop g xs); is = refl }
 
 -- where an activity stands
-found : (xs : List Element) (a : ℕ) → has_activity xs a ≡ true → (ps rs : List Element) × (xs ≡ ps ++ Activity a ∷ rs)
+pub found : (xs : List Element) (a : ℕ) → has_activity xs a ≡ true → (ps rs : List Element) × (xs ≡ ps ++ Activity a ∷ rs)
 found [] a h = absurd (false≢true h)
 found (x ∷ xs) a h = go (is_activity x a) refl (found xs a) h
   where

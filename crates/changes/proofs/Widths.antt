@@ -4,7 +4,7 @@ use Rattle.model.specs.Trees.{Seq, Item, Branches, count, Width, Wide, WideItem,
 use Rattle.changes.specs.Changed.{Changed, here, in_item, later, ChangedItem, in_loop, in_and, in_xor, ChangedBranches, in_last, in_first, in_later}
 
 module _ (R : Seq → Seq → Type 0) where
-  same_count : (g : ℕ) (b c : Branches) → ChangedBranches R g b c → count b ≡ count c
+  pub same_count : (g : ℕ) (b c : Branches) → ChangedBranches R g b c → count b ≡ count c
   same_count _ _ _ (in_last h) = refl
   same_count _ _ _ (in_first h) = refl
   same_count _ _ _ (in_later {g = g} {b = b} {c = c} h) = ap (λ k. 1 + k) (same_count g b c h)

@@ -3,4 +3,4 @@
 
 pub mod marking;
 mod signals;
-mod states;
+pub mod states;

@@ -1,11 +1,12 @@
 // The states of a schema's nodes, from the signals of its gaps.
-ghost use Rattle.std.specs.Prelude.{◌≡◌, ◌+◌, length, take};
+ghost use Rattle.std.specs.Prelude.{◌≡◌, ◌+◌, length, take, slice_index_or};
 ghost use Rattle.model.specs.States.{state_of};
 ghost use Rattle.schema.specs.Schemas.{parts};
 ghost use Rattle.marking.specs.Machine.{signals, start};
 ghost use Rattle.marking.specs.States.{own_in, settled, settled_in, free_in, state_in, finished_in};
 
 use crate::signals::{is_done, mark};
+use bounded::get_or;
 use facts::Facts;
 use model::{Fact, Signal, State};
 use schema::schema::Schema;
@@ -13,9 +14,9 @@ use schema::schema::Schema;
 // A schema, the facts of its nodes, and the signals of its gaps under them, in an array, since marking takes
 // no memory, and no `ArrayVec`, since that asks a default of signals.
 #[derive(Drop)]
-pub(crate) struct Signals<'a> {
-    schema: &'a Schema,
-    facts: &'a Facts,
+pub struct Signals<'a> {
+    pub schema: &'a Schema,
+    pub facts: &'a Facts,
     gaps: [Signal; 129],
     ghost long: { length gaps ≡ 129 },
     ghost told: { take (length (parts schema.now).row + 1) gaps ≡ signals facts.now start (parts schema.now).row },
@@ -41,7 +42,7 @@ fn settled(signal: Option<Signal>, fact: Fact) -> bool
 }
 
 impl<'a> Signals<'a> {
-    pub(crate) fn of(schema: &'a Schema, facts: &'a Facts) -> Signals<'a>
+    pub fn of(schema: &'a Schema, facts: &'a Facts) -> Signals<'a>
         ensures schema { result.schema.now ≡ schema.now }
         ensures facts { result.facts.now ≡ facts.now }
     {
@@ -79,11 +80,18 @@ impl<'a> Signals<'a> {
     }
 
     // The state of a node, if the schema has it.
-    pub(crate) fn state(&self, id: u8) -> Option<State>
+    pub fn state(&self, id: u8) -> Option<State>
         ensures { result ≡ state_in (parts self.now.schema.now).row (parts self.now.schema.now).edges self.now.facts.now id }
     {
         let signal = self.own(id)?;
         Some(state_of(signal, self.facts.of(id), self.is_free(id)))
+    }
+
+    // The signal of a gap; past the row's end there is none.
+    pub fn of_gap(&self, gap: usize) -> Signal
+        ensures { result ≡ slice_index_or (signals self.now.facts.now start (parts self.now.schema.now).row) gap Signal.None }
+    {
+        get_or(&self.gaps[..=self.schema.row().len()], gap, Signal::None)
     }
 
     // Whether the case is finished: the gap behind the row is true.

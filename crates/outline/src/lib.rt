@@ -1,9 +1,15 @@
-// A schema as a person reads it: a line for each element, with its depth as indentation, and one for each edge.
+// A schema in print: as a person reads it, a line for each element, with its depth as indentation, and one for each edge; and
+// the line that a reader takes it from.
 #![tactic(auto)]
+
+#[cfg(test)]
+mod tests;
+mod writing;
 
 use model::Element;
 use schema::schema::Schema;
 use std::fmt;
+pub use writing::schema_line;
 
 // Prints as the schema's outline.
 #[derive(Clone, Copy)]

@@ -5,3 +5,4 @@ pub mod Rights
 pub mod Onlys
 pub mod Lines
 pub mod Checked
+pub mod Distincts

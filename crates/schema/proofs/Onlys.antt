@@ -25,7 +25,7 @@ use Rattle.schema.proofs.Wrongs.{not_reused, reused, among_right}
 use Rattle.schema.proofs.Rights.{decides_large}
 
 -- a row that is spelled without fault is read
-unique_front : (xs : List Element) (x : Element) (ys : List Element) → Unique (xs ++ (x ∷ ys)) → Reused xs x → ⊥
+pub unique_front : (xs : List Element) (x : Element) (ys : List Element) → Unique (xs ++ (x ∷ ys)) → Reused xs x → ⊥
 unique_front [] x ys o (u, b, a) = elim a [ ]
 unique_front (y ∷ xs) x ys o (u, b, inl a) = o.0 u a (among_right xs (x ∷ ys) u (inl b))
 unique_front (y ∷ xs) x ys o (u, b, inr a) = unique_front xs x ys o.1 (u, b, a)

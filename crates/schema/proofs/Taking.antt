@@ -17,14 +17,14 @@ use Rattle.schema.specs.Seen.{seen_before, unseen}
 abbrev pub Seen : IdSet → List Element → Type 0
 Seen seen row = (u : ℕ) → has seen u ≡ among row u
 
-among_last : (xs : List Element) (x : Element) (u : ℕ) → among (xs ++ x ∷ []) u ≡ (among xs u || is_id (node_id x) u)
+pub among_last : (xs : List Element) (x : Element) (u : ℕ) → among (xs ++ x ∷ []) u ≡ (among xs u || is_id (node_id x) u)
 among_last xs x u = or_push (λ ys. among ys u) (λ y. is_id (node_id y) u) refl (λ y ys. refl) xs x
 
-same_used : (seen : IdSet) (row : List Element) → Seen seen row → (o : Option ℕ) → used row o ≡ seen_before seen o
+pub same_used : (seen : IdSet) (row : List Element) → Seen seen row → (o : Option ℕ) → used row o ≡ seen_before seen o
 same_used seen row s None = refl
 same_used seen row s (Some i) = sym (s i)
 
-seen_more : (seen : IdSet) (row : List Element) → Seen seen row → (o : Option ℕ) → LowId o → (u : ℕ) → has (with_id seen o) u ≡ (among row u || is_id o u)
+pub seen_more : (seen : IdSet) (row : List Element) → Seen seen row → (o : Option ℕ) → LowId o → (u : ℕ) → has (with_id seen o) u ≡ (among row u || is_id o u)
 seen_more seen row s None low u = s u ∙ sym (or-false (among row u))
 seen_more seen row s (Some i) low u =
     has_union seen (only i) u ∙ ap (λ b. b || has (only i) u) (s u) ∙ ap (λ b. among row u || b) (has_only i u low)

@@ -56,7 +56,7 @@ used_id : (xs : List Element) (o : Option ℕ) → used xs o ≡ true → (u : �
 used_id xs None e = true_false false e refl
 used_id xs (Some i) e = (i, refl, (decides_among xs i).0 e)
 
-used_true : (xs : List Element) (x : Element) → used xs (node_id x) ≡ true → Reused xs x
+pub used_true : (xs : List Element) (x : Element) → used xs (node_id x) ≡ true → Reused xs x
 used_true xs x e = let h = used_id xs (node_id x) e in (h.0, bears_from x h.0 h.1, h.2)
 
 unused_id : (xs : List Element) (o : Option ℕ) → used xs o ≡ false → (u : ℕ) → IdIs o u → Among xs u → ⊥
@@ -93,7 +93,7 @@ id_low (Some i) low u h = subst (λ k. k < 64) (sym h) low
 low_last : (xs : List Element) (x : Element) → Low xs → LowId (node_id x) → Low (xs ++ x ∷ [])
 low_last xs x l h u a = ⊎_elim (l u) (λ b. id_low (node_id x) h u (bears_to x u b)) (among_last xs x u a)
 
-fine_last : (xs : List Element) (x : Element) → Fine xs → used xs (node_id x) ≡ false → LowId (node_id x) → Fine (xs ++ x ∷ [])
+pub fine_last : (xs : List Element) (x : Element) → Fine xs → used xs (node_id x) ≡ false → LowId (node_id x) → Fine (xs ++ x ∷ [])
 fine_last xs x f e low = (unique_last xs x f.0 (used_false xs x e), low_last xs x f.1 low)
 
 abbrev ToldFrom : List (ℕ × ℕ) → List (ℕ × ℕ) → Result (List Element) ℕ → Type 0

@@ -2,6 +2,7 @@
 --   SchemaParts       what a schema consists of
 --   passes            whether a row and its edges pass the checks
 --   Admitted          a schema that is within the limits and passed them
+--   schema_of_parts   the schema of these parts, if they pass
 --   schema_checked    the schema of a record, or why it is refused
 --   schema_read       the schema of a line, or why it is refused
 use Rattle.std.specs.Prelude.{◌≡◌, ℕ, ◌≤◌, Bool, true, cond, not, ◌&&◌, ◌||◌, List, [], ◌∷◌, map, length, is_some, is_ok, Some, None, Ok, Err, Option, Result, nat_lt}
@@ -31,6 +32,10 @@ distinct (x ∷ xs) = (low_id (node_id x) && not (used xs (node_id x))) && disti
 
 abbrev pub passes : List Element → List Edge → Bool
 passes row es = distinct row && (not (is_some (fault [] 0 row)) && is_ok (edges_verdict row es))
+
+-- The schema of these parts, if they pass the checks.
+abbrev pub schema_of_parts : ℕ → List Element → List Edge → Option SchemaParts
+schema_of_parts version row es = cond (passes row es) (Some (record { version = version; row = row; edges = es })) None
 
 -- A schema that a reader admits: it is within the limits, and its row and edges pass.
 pub record Admitted (S : SchemaParts) : Type 0 where

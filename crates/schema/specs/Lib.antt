@@ -1,6 +1,6 @@
 pub mod Reading
-pub mod Seen
 pub mod Checks
+pub mod Seen
 pub mod Causes
 pub mod Schemas
 pub mod Tables

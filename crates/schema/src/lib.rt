@@ -2,6 +2,7 @@
 #![tactic(auto)]
 
 mod bad_element;
+mod distinct;
 mod rows;
 pub mod schema;
 pub mod space;

@@ -4,6 +4,7 @@ ghost use Rattle.model.specs.Trees.{Seq, flatten};
 ghost use Rattle.model.specs.Rows.{Precedes};
 ghost use Rattle.edges.specs.Edges.{within};
 ghost use Rattle.edges.specs.Places.{befores, OrderOf};
+ghost use Rattle.edges.specs.Verdicts.{edge_verdict, Judges};
 ghost use Rattle.layout.specs.Gaps.{Positioned, Ended};
 ghost use Rattle.layout.specs.Nodes.{Finds};
 ghost use Rattle.layout.specs.Pass.{LayoutOf};
@@ -60,6 +61,14 @@ impl Schema {
         ensures tree { (t : Seq) → (parts self.now).row ≡ flatten t → Decides result (Precedes t first second) }
     {
         self.order.precedes(first, second)
+    }
+
+    // Whether the edge may come after those that are listed.
+    pub fn admits(&self, edge: Edge) -> bool
+        ensures value { result ≡ edge_verdict (parts self.now).row (parts self.now).edges edge }
+        ensures tree { Judges (parts self.now).row (parts self.now).edges edge result }
+    {
+        self.order.admits(self.edges.as_slice(), edge)
     }
 
     // The place of the node with this id; its element tells the kind.

@@ -25,7 +25,7 @@ impl Space {
     }
 
     // The row and the list, both empty.
-    pub(crate) fn into_parts(self) -> (Row, EdgeList)
+    pub fn into_parts(self) -> (Row, EdgeList)
         ensures row { result.0 ≡ [] }
         ensures edges { result.1 ≡ [] }
     {

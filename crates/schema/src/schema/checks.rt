@@ -4,10 +4,12 @@ ghost use Rattle.blocks.specs.Blocks.{fault};
 ghost use Rattle.edges.specs.Verdicts.{edges_verdict};
 ghost use Rattle.record.specs.Lines.{held_of};
 ghost use Rattle.record.specs.Readings.{raw};
-ghost use Rattle.schema.specs.Checks.{distinct, by_blocks, by_edges, over, schema_checked, schema_read};
-ghost use Rattle.schema.specs.Schemas.{shown};
+ghost use Rattle.std.specs.Option.{option_map};
+ghost use Rattle.schema.specs.Checks.{distinct, by_blocks, by_edges, over, schema_of_parts, schema_checked, schema_read};
+ghost use Rattle.schema.specs.Schemas.{parts, shown};
 ghost use Rattle.schema.specs.Causes.{Rightly, ReadRightly, OnlyRight};
 
+use crate::distinct::are_distinct;
 use crate::rows::{read_edges, read_row};
 use crate::schema::Schema;
 use crate::space::Space;
@@ -67,6 +69,16 @@ fn check_record(space: Space, given: SchemaRecord<'_>) -> Result<Schema, SchemaR
 }
 
 impl Schema {
+    // The schema of these parts, if they pass the checks.
+    pub fn from_parts(version: u16, row: Row, edges: EdgeList) -> Option<Schema>
+        ensures { option_map parts result ≡ schema_of_parts version row edges }
+    {
+        if !are_distinct(row.as_slice()) {
+            return None;
+        }
+        check_parts(version, row, edges).ok()
+    }
+
     // The schema that a record says, or why it is refused.
     pub fn check(space: Space, given: SchemaRecord<'_>) -> Result<Schema, SchemaRefusal>
         ensures value { shown result ≡ schema_checked (raw given.entry) }
