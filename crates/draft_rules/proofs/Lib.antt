@@ -1,0 +1,9 @@
+pub mod Sames
+pub mod CausesTold
+pub mod OneAnswer
+pub mod RelationsKept
+pub mod ActivitiesPutIn
+pub mod EdgesThatStay
+pub mod ChangedEdges
+pub mod SchemasPassAgain
+pub mod ListsPassAgain
