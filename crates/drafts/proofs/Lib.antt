@@ -1,0 +1,9 @@
+pub mod Rooms
+pub mod Anys
+pub mod Carried
+pub mod StagesTold
+pub mod Judged
+pub mod PlanFacts
+pub mod Sames
+pub mod Adding
+pub mod Lookups

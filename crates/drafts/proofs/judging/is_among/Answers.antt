@@ -1,0 +1,12 @@
+use Rattle.std.proofs.Common.{◌∙◌, rules, tests}
+use Rattle.std.proofs.lemmas.Iterator.{YieldsList-from_slice}
+use Rattle.std.proofs.lemmas.Iterator.Search.{any_from_yields_List}
+use Rattle.ids.specs.Sets.{is_id}
+use Rattle.model.specs.Elements.{node_id}
+use Rattle.drafts.proofs.Anys.{some_bears}
+use Rattle.drafts.proofs.judging.is_among.Goals as goal
+
+pub returns : goal.returns
+returns c =
+    any_from_yields_List (λ x. is_id (node_id x) c.args.id) _ _ _ c.any.ensures.ran (YieldsList-from_slice c.args.row.now cc) (λ x b q k. search (rules, tests))
+    ∙ some_bears c.args.id c.args.row.now
