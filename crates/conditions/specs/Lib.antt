@@ -1,0 +1,4 @@
+pub mod Deciders
+pub mod Conditions
+pub mod Meaning
+pub mod Kinds

@@ -1,0 +1,5 @@
+// Worked examples of changes under running cases.
+#![tactic(auto)]
+
+#[cfg(test)]
+mod tests;
