@@ -1,0 +1,11 @@
+pub mod StoppedSequences
+pub mod OwnSignals
+pub mod HaltedSignals
+pub mod SilentFollowers
+pub mod Places
+pub mod GapsOfPlaces
+pub mod HaltedPlaces
+pub mod SilentPlaces
+pub mod HaltedRows
+pub mod NewActivities
+pub mod HaltedFollowers

@@ -1,0 +1,5 @@
+pub mod Entries
+pub mod Nodes
+pub mod Lists
+pub mod Admissions
+pub mod Replays
