@@ -3,6 +3,7 @@ use entering::course::Course;
 use history::Store;
 use worklist::Worklist;
 
+pub mod moves;
 pub mod openings;
 pub mod questions;
 pub mod steps;

@@ -6,12 +6,17 @@ ghost use Rattle.agreement.specs.Laws.{no_facts};
 ghost use Rattle.marking.specs.Markings.{MarkingOf};
 ghost use Rattle.marking.specs.States.{state_in};
 ghost use Rattle.history.specs.Stores.{cleared};
+ghost use Rattle.draft_rules.specs.Plans.{released_of};
+ghost use Rattle.drafts.specs.Views.{planned};
 ghost use Rattle.lives.specs.Calls.{held, entered, repeated, taken, entries_taken};
+ghost use Rattle.lives.specs.Moves.{move_refusal};
 ghost use Rattle.lives.specs.Lives.{Leaves};
 ghost use Rattle.entering.specs.Changes.{Changed, Reached};
-ghost use Rattle.entering.specs.Courses.{schema_of, held_in, Becomes};
+ghost use Rattle.entering.specs.Courses.{schema_of, held_in, progress_of, Becomes};
 
 use case_record::{CaseRecord, RawEntry};
+use conditions::failures::first_failing;
+use drafts::plan::Plan;
 use facts::Facts;
 use history::Store;
 use lives::CallRefusal;
@@ -119,5 +124,37 @@ impl<'s, S: Store> Course<'s, S> {
             self.take(place, raw)?;
         }
         Ok(())
+    }
+
+    // Begins anew on another schema.
+    pub fn begin_on(&mut self, schema: &'s Schema)
+        ensures begun { held_in S.view self.new ≡ held no_facts (cleared (S.view self.old.store)) }
+        ensures schema { self.new.schema.now ≡ schema.now }
+    {
+        self.schema = schema;
+        self.begin();
+    }
+
+    // Why the course may not go on on the schema that a plan gives, if it may not.
+    pub fn move_refusal(&self, plan: &Plan) -> Option<CallRefusal>
+        ensures { result ≡ move_refusal (planned plan.now) (progress_of self.now) (S.view self.now.store).list }
+    {
+        if self.marking().is_finished() {
+            return Some(CallRefusal::Finished);
+        }
+        if !plan.is_of(self.schema) {
+            return Some(CallRefusal::OtherBase);
+        }
+        let (place, id) = first_failing(plan, &self.facts, &self.store)?;
+        Some(CallRefusal::Change { place, id })
+    }
+
+    // Goes on on the schema that a plan gives. Facts and history stay.
+    pub fn go_on(&mut self, plan: &'s Plan)
+        ensures schema { schema_of self.new ≡ released_of (planned plan.now) }
+        ensures facts { self.new.facts ≡ self.old.facts }
+        ensures store { self.new.store ≡ self.old.store }
+    {
+        self.schema = plan.released();
     }
 }

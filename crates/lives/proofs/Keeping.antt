@@ -1,5 +1,5 @@
 -- What every life keeps. Assumes nothing.
-use Rattle.std.proofs.Common.{◌≡◌, ℕ, ◌<◌, ◌≤◌, Bool, true, false, cond, ltb, List, [], ◌∷◌, ◌++◌, set, Some, None, Ok, Err, Option, Result, sym, refl, ap, ◌∙◌, subst, arith}
+use Rattle.std.proofs.Common.{◌≡◌, ℕ, ◌<◌, ◌≤◌, Bool, true, false, cond, ltb, List, [], ◌∷◌, ◌++◌, set, Some, None, Ok, Err, Option, Result, sym, refl, ap, ◌∙◌, subst, inl, inr, arith}
 use Rattle.std.proofs.lemmas.Bool.{ltb-false, le-ltb}
 use Rattle.model.specs.declared.Entry.{Entry}
 use Rattle.model.specs.declared.Entry.TheVariants.{Leave}
@@ -13,7 +13,6 @@ use Rattle.runs.specs.Steps.{Allowed, Runs, ends, steps, step_in}
 use Rattle.runs.proofs.Allows.{allowed_step, step_allowed}
 use Rattle.runs.proofs.RunTold.{runs_last}
 use Rattle.agreement.specs.Laws.{no_facts}
-use Rattle.agreement.proofs.FactsAfter.{after_entries}
 use Rattle.history.specs.Stores.{refusal, cleared}
 use Rattle.rounds.specs.Rounds.{in_round, outside}
 use Rattle.rounds.proofs.DroppedRounds.{finished_dropped}
@@ -23,15 +22,15 @@ use Rattle.lives.specs.Calls.{Held, held, opened, entered, by_held, step_outcome
 use Rattle.lives.specs.Lives.{Life, opens, loads, repeats, if_accepted, entries_read, record_entries, line_entries, loaded_history, stepped_history, repeated_history}
 use Rattle.lives.specs.Lives as life
 use Rattle.lives.specs.Laws.{HistoryRuns, StepsHaveCause, AgainsHaveCause, Loadable, LoadsHaveCause, LivesKeepTheirPromises}
+use Rattle.draft_rules.specs.Plans.{PlanParts, Released}
+use Rattle.lives.specs.Moves.{move_outcome}
+use Rattle.lives.proofs.Moving.{one_run, released_checked, stays_or_lands, moves_are_replays, moves_land, moves_have_cause}
 use Rattle.lives.proofs.Entering.{was_entered, can_enter, were_taken, can_take}
 
 -- a run parts before its last entry
 runs_parted : {S : SchemaParts} {gs : List Fact} (es : List Entry) (e : Entry) (fs : List Fact) → Runs S fs (es ++ e ∷ []) gs → (ms : List Fact) × Runs S fs es ms × Allowed S ms e
 runs_parted [] e fs (steps a r) = (fs, ends, a)
 runs_parted (x ∷ es) e fs (steps a r) = let p = runs_parted es e _ r in (p.0, steps a p.1, p.2)
-
-one_run : {S : SchemaParts} {fs gs ms : List Fact} (es : List Entry) → Runs S fs es gs → Runs S fs es ms → gs ≡ ms
-one_run {S} {fs} {gs} {ms} es r q = after_entries S fs gs es r ∙ sym (after_entries S fs ms es q)
 
 pub record Kept (H : List Entry) (v : CaseView) : Type 0 where
   pub checked : Admitted v.progress.schema
@@ -71,6 +70,14 @@ by_entered H v e (Ok h) k q =
       offered = refl;
     }
 
+-- a move
+by_move : (H : List Entry) (v : CaseView) (p : PlanParts) → Released p → Kept H v → Kept H (move_outcome p v).after
+by_move H v p released k =
+    elim (stays_or_lands H v k.runs k.list p released) [
+      | inl e ↦ subst (Kept H) (sym e) k
+      | inr e ↦ subst (Kept H) (sym e.0) (record { checked = released_checked p released; runs = e.1; list = k.list; offered = refl })
+    ]
+
 module _ (cost : ℕ) where
   -- one more round
   module _ (H : List Entry) (v : CaseView) (i free : ℕ) (k : Kept H v) where
@@ -101,6 +108,7 @@ module _ (cost : ℕ) where
   kept (loads v line k) = by_line v (case_in line) k
   kept (life.steps {H} {v} e l) = by_entered H v e (entered v.progress.schema None e (held v.progress.facts v.store)) (kept l) refl
   kept (repeats {H} {v} i free b l) = by_left H v i free (kept l) (step_in v.progress.schema v.progress.facts (Leave i)) refl
+  kept (life.moves {H} {v} p r l) = by_move H v p r (kept l)
 
 err_ok : {P : Type 0} (r : CallRefusal) → ◌≡◌ {A = Result (Unit {0}) CallRefusal} (Err r) (Ok tt) → P
 err_ok r e = absurd cc
@@ -182,5 +190,13 @@ loads_have_cause v line = (is_loadable v line (case_in line) refl, loads_well v 
 
 pub promises_kept : LivesKeepTheirPromises
 promises_kept cost H v l =
-    let k = kept cost l in
-    (k.runs, (k.list, k.offered), steps_have_cause k, agains_have_cause k cost, loads_have_cause v)
+    let k = kept cost l in (
+      k.runs,
+      (k.list, k.offered),
+      moves_are_replays H v k.runs k.list k.checked,
+      moves_land H v k.runs k.list,
+      moves_have_cause H v k.runs k.list,
+      steps_have_cause k,
+      agains_have_cause k cost,
+      loads_have_cause v,
+    )

@@ -1,2 +1,3 @@
 pub mod Entering
+pub mod Moving
 pub mod Keeping

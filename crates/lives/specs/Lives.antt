@@ -10,7 +10,9 @@ use Rattle.case_record.specs.CaseRecords.{RawCase, case_in}
 use Rattle.history.specs.Stores.{StoreView}
 use Rattle.rounds.specs.Rounds.{in_round, outside}
 use Rattle.lives.specs.Views.{CaseView}
+use Rattle.draft_rules.specs.Plans.{PlanParts, Released}
 use Rattle.lives.specs.Calls.{opened, step_outcome, again_outcome, load_outcome}
+use Rattle.lives.specs.Moves.{move_outcome}
 
 -- The history after a call: it changes only where the call is accepted.
 abbrev pub if_accepted : Result (Unit {0}) CallRefusal → List Entry → List Entry → List Entry
@@ -48,16 +50,21 @@ stepped_history e v H = if_accepted (step_outcome e v).answer (H ++ e ∷ []) H
 abbrev pub repeated_history : ℕ → ℕ → ℕ → CaseView → List Entry → List Entry
 repeated_history cost i free v H = if_accepted (again_outcome cost i free v).answer (outside (in_round v.progress.schema.row i) H) H
 
+-- A move leaves the history as it is, accepted or refused.
+abbrev pub moved_history : CaseView → List Entry → List Entry
+moved_history v H = H
+
 -- The free places that a purge may leave: it takes no more than it costs, and leaves room for what stays.
 pub record Leaves (cost i free : ℕ) (S : SchemaParts) (s : StoreView) : Type 0 where
   pub cheap : s.free ≤ free + cost
   pub within : free + length (outside (in_round S.row i) s.list) ≤ s.capacity
 
 -- A life begins by opening or loading, on any schema that passed the checks, whatever number, facts, store and worklist were
--- before; it goes on with steps and agains, accepted or refused.
+-- before; it goes on with steps, agains and moves by released plans, accepted or refused.
 pub data Life (cost : ℕ) : List Entry → CaseView → Type 0 where
   opens : (v : CaseView) (n : ℕ) → Admitted v.progress.schema → Life cost opened_history (opened n v)
   loads : (v : CaseView) (line : List ℕ) → Admitted v.progress.schema → Life cost (loaded_history line v) (load_outcome line v).after
   steps : {H : List Entry} {v : CaseView} (e : Entry) → Life cost H v → Life cost (stepped_history e v H) (step_outcome e v).after
   repeats : {H : List Entry} {v : CaseView} (i free : ℕ) → ((again_outcome cost i free v).answer ≡ Ok tt → Leaves cost i free v.progress.schema v.store) → Life cost H v
       → Life cost (repeated_history cost i free v H) (again_outcome cost i free v).after
+  moves : {H : List Entry} {v : CaseView} (p : PlanParts) → Released p → Life cost H v → Life cost (moved_history v H) (move_outcome p v).after

@@ -1,7 +1,8 @@
 // What holds of all lives of all cases: the contract is the law. And why a call on a case is refused.
 #![tactic(auto)]
 
-ghost use Rattle.std.specs.Prelude.{◌≡◌};
+ghost use Rattle.std.specs.Prelude.{◌≡◌, None};
+ghost use Rattle.model.specs.Refusals.{reason};
 ghost use Rattle.lives.specs.declared.CallRefusal.TheVariants.{Case};
 ghost use Rattle.lives.specs.Laws.{LivesKeepTheirPromises};
 ghost use Rattle.lives.specs.Refusals.{call_reason};
@@ -16,6 +17,12 @@ pub enum CallRefusal {
     Case(CaseRefusal),
     // a step that is no entry of a record has no place
     Store { place: Option<usize>, id: u8 },
+    // of a move: the case is finished
+    Finished,
+    // the plan's base is not the case's schema
+    OtherBase,
+    // the change at this place fails, by this node
+    Change { place: usize, id: u8 },
 }
 
 impl From<CaseRefusal> for CallRefusal {
@@ -23,6 +30,18 @@ impl From<CaseRefusal> for CallRefusal {
 
     fn from(refusal: CaseRefusal) -> CallRefusal {
         CallRefusal::Case(refusal)
+    }
+}
+
+// A move that is refused as a whole.
+fn of_move(number: u8) -> Reason
+    ensures { result ≡ reason number 6 None None }
+{
+    Reason {
+        place: None,
+        id: None,
+        number,
+        layer: 6,
     }
 }
 
@@ -39,6 +58,14 @@ impl From<CallRefusal> for Reason {
                 id: Some(id),
                 number: 40,
                 layer: 7,
+            },
+            CallRefusal::Finished => of_move(33),
+            CallRefusal::OtherBase => of_move(34),
+            CallRefusal::Change { place, id } => Reason {
+                place: Some(place),
+                id: Some(id),
+                number: 35,
+                layer: 6,
             },
         }
     }

@@ -73,6 +73,17 @@ impl<'s, S: Store, W: Worklist> Case<'s, S, W> {
         self.refresh();
     }
 
+    // Begins a new life on another schema, with the same store and worklist.
+    pub fn open_on(&mut self, schema: &'s Schema, number: u32)
+        ensures after { view_of S.view W.offered self.new ≡ opened_on number (parts schema.now) (S.view self.old.course.store) }
+        ensures life { Life S.Cost.PLACES opened_history (view_of S.view W.offered self.new) }
+    {
+        self.number = number;
+        self.course.begin_on(schema);
+        self.worklist.clear();
+        self.refresh();
+    }
+
     // Begins a new life with the case that a line writes, each entry judged in full before the next. A refused load
     // leaves the case opened and empty.
     #[tactic(auto, using(crate::proofs::Living::life_loaded, schema::proofs::Checked::schema_checked))]

@@ -18,7 +18,8 @@ use worklist::{Worklist, bring_in_step};
 impl<'s, S: Store, W: Worklist> Case<'s, S, W> {
     // Brings the worklist in step with the facts.
     pub(crate) fn refresh(&mut self)
-        ensures { view_of S.view W.offered self.new ≡ refreshed (view_of S.view W.offered self.old) }
+        ensures after { view_of S.view W.offered self.new ≡ refreshed (view_of S.view W.offered self.old) }
+        ensures course { self.new.course ≡ self.old.course }
     {
         let wanted = activated_activities(self.course.schema, &self.course.facts);
         bring_in_step(&mut self.worklist, wanted);

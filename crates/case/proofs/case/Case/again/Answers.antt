@@ -16,10 +16,10 @@ returns g c =
     let w : CaseView = view_of g.S.Store.view g.W.Worklist.offered c.refresh.new.self in
     let k = held_in g.S.Store.view c.repeat.new.self in
     let went = c.in_ok-repeat.ensures.after in
-    let same : w.store.free ≡ k.store.free = ap (λ (x : CaseView). x.store.free) c.refresh.ensures in
+    let same : w.store.free ≡ k.store.free = ap (λ (x : CaseView). x.store.free) c.refresh.ensures.after in
     let outcome = ap (λ (f : ℕ). again_outcome cost i f v) same ∙ ap (by_held v) went.change in
     let after : w ≡ (again_outcome cost i w.store.free v).after =
-    c.refresh.ensures ∙ ap (λ s. in_progress v.number (parts s.now) k.facts k.store) went.schema ∙ sym (ap (λ (o : Outcome). o.after) outcome) in
+    c.refresh.ensures.after ∙ ap (λ s. in_progress v.number (parts s.now) k.facts k.store) went.schema ∙ sym (ap (λ (o : Outcome). o.after) outcome) in
     let bounds : Leaves cost i w.store.free v.progress.schema v.store =
     subst (λ (f : ℕ). Leaves cost i f v.progress.schema v.store) (sym same) (c.in_ok-repeat.ensures.bounds refl) in
     record {

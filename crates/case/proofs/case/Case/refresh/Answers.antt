@@ -4,8 +4,8 @@ use Rattle.entering.specs.Courses.{schema_of}
 use Rattle.lives.specs.Views.{CaseView}
 use Rattle.case.proofs.case.Case.refresh.Goals as goal
 
-pub returns : goal.returns
-returns g c =
+pub returns-clause-after : goal.returns-clause-after
+returns-clause-after g c =
     let s = c.args.self.now in
     ap {B = CaseView}
     (λ (o : ℕ → Bool). record { number = s.number; progress = record { schema = schema_of s.course; facts = s.course.facts }; store = g.S.Store.view s.course.store; offered = o })
