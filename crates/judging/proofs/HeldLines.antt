@@ -1,0 +1,32 @@
+-- What a buffer holds of a line is read as the whole line is. Assumes nothing.
+use Rattle.std.proofs.Common.{◌≡◌, ℕ, Bool, true, false, cond, ◌||◌, eqb, ltb, leb, List, length, None, Ok, Err, Result, sym, refl, ap, ◌∙◌, arith}
+use Rattle.std.proofs.lemmas.Bool.Decides.{nat_tests}
+use Rattle.model.specs.declared.refusal.SchemaRefusal.{SchemaRefusal}
+use Rattle.record.specs.Hex.{spelled, decoded}
+use Rattle.record.specs.Lines.{Held, Short, Overlong, held_of}
+use Rattle.plan_record.specs.PlanRecords.{read_decoded}
+use Rattle.schema.specs.Checks.{SchemaParts}
+use Rattle.drafts.specs.Plans.{begun, by_record}
+use Rattle.judging.specs.Judgements.{by_plan, by_schema}
+use Rattle.judging.specs.Held.{held_characters}
+
+-- It is spelled the same: a line that is too long spells nothing, as the empty line does.
+held_decoded : (cs : List ℕ) → decoded (held_characters (held_of cs)) ≡ decoded cs
+held_decoded cs = go (leb (length cs) 1024) refl
+  where
+    long : (b : Bool) → ltb 1024 (length cs) ≡ true → None ≡ cond (b || ltb 1024 (length cs)) None (spelled cs)
+    long true h = refl
+    long false h = sym (ap (λ v. cond v None (spelled cs)) h)
+
+    above : leb (length cs) 1024 ≡ false → ltb 1024 (length cs) ≡ true
+    above h = grind (arith, nat_tests)
+
+    go : (b : Bool) → leb (length cs) 1024 ≡ b → decoded (held_characters (cond b (Short cs) Overlong)) ≡ decoded cs
+    go true h = refl
+    go false h = long (eqb (length cs) 0) (above h)
+
+-- A plan line is read by what it spells.
+pub plan_held : (ds : List ℕ) (held : Held) (S : Result SchemaParts SchemaRefusal) → held ≡ held_of ds → by_schema (held_characters held) S ≡ by_schema ds S
+plan_held ds held (Ok S) e =
+    ap (λ d. by_plan (by_record (begun S) (read_decoded d))) (ap (λ h. decoded (held_characters h)) e ∙ held_decoded ds)
+plan_held ds held (Err r) e = refl

@@ -1,0 +1,2 @@
+pub mod HeldLines
+pub mod Bases

@@ -1,0 +1,3 @@
+pub mod Judgements
+pub mod Batches
+pub mod Held

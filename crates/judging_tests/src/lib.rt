@@ -1,0 +1,5 @@
+// Examples of batches that are judged.
+#![tactic(auto)]
+
+#[cfg(test)]
+mod tests;
