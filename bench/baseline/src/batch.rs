@@ -4,7 +4,7 @@
 //! base nor a full log can occur here.
 
 use crate::case::Case;
-use crate::conditions::first_failing;
+use crate::conditions::{first_failing, Condition};
 use crate::draft::{Draft, Plan};
 use crate::lines::{decode, RECORD};
 use crate::records::{read_plan, CaseRecord, SchemaRecord};
@@ -47,11 +47,14 @@ impl Batch {
 
     /// Why a case that runs on the schema is not moved, told by looking at it.
     pub fn move_refusal(&self, case: &Case) -> Option<Refusal> {
+        Batch::refusal_of_move(&self.plan.conditions, case)
+    }
+
+    pub fn refusal_of_move(conditions: &[Condition], case: &Case) -> Option<Refusal> {
         if case.is_finished() {
             return Some(Refusal::new(33, 6));
         }
-        first_failing(&self.plan.conditions, case)
-            .map(|(change, id)| Refusal::at(35, 6, change, id))
+        first_failing(conditions, case).map(|(change, id)| Refusal::at(35, 6, change, id))
     }
 }
 

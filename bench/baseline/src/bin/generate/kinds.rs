@@ -1,0 +1,80 @@
+//! The kinds of batches.
+
+/// What a batch of a kind is like. Pairs are a least and a most.
+pub struct Kind {
+    pub name: &'static str,
+    pub cases: usize,
+    pub elements: (usize, usize),
+    pub nodes: (usize, usize),
+    /// Of a hundred items, where there is room for one.
+    pub blocks: usize,
+    /// Of a hundred blocks; the others are AND blocks.
+    pub xor: usize,
+    pub loops: usize,
+    pub edges: usize,
+    pub changes: usize,
+    pub entries: (usize, usize),
+}
+
+pub const KINDS: [Kind; 5] = [
+    Kind {
+        name: "small",
+        cases: 20_000,
+        elements: (8, 16),
+        nodes: (5, 12),
+        blocks: 30,
+        xor: 40,
+        loops: 10,
+        edges: 1,
+        changes: 2,
+        entries: (2, 10),
+    },
+    Kind {
+        name: "wide",
+        cases: 10_000,
+        elements: (122, 124),
+        nodes: (48, 60),
+        blocks: 60,
+        xor: 25,
+        loops: 15,
+        edges: 8,
+        changes: 2,
+        entries: (10, 60),
+    },
+    Kind {
+        name: "long",
+        cases: 5_000,
+        elements: (124, 127),
+        nodes: (62, 62),
+        blocks: 70,
+        xor: 0,
+        loops: 0,
+        edges: 4,
+        changes: 2,
+        entries: (119, 123),
+    },
+    Kind {
+        name: "changes16",
+        cases: 5_000,
+        elements: (96, 104),
+        nodes: (36, 50),
+        blocks: 60,
+        xor: 20,
+        loops: 10,
+        edges: 6,
+        changes: 16,
+        entries: (10, 50),
+    },
+    Kind {
+        name: "many",
+        cases: 200_000,
+        elements: (10, 14),
+        nodes: (6, 10),
+        blocks: 40,
+        xor: 40,
+        loops: 10,
+        edges: 1,
+        changes: 1,
+        entries: (3, 10),
+    },
+];
