@@ -17,4 +17,5 @@ pub mod lines;
 pub mod marking;
 pub mod records;
 pub mod schema;
+pub mod stepwise;
 pub mod verdict;

@@ -2,7 +2,7 @@
 
 use crate::case::Facts;
 use crate::layout::{Block, BlockKind};
-use crate::schema::{has, Element, Schema, IDS, MOST_ELEMENTS};
+use crate::schema::{has, Element, Ids, Schema, IDS, MOST_ELEMENTS};
 
 #[derive(Clone, Copy, PartialEq, Eq, Debug)]
 pub enum State {
@@ -41,17 +41,36 @@ impl Marking {
     /// Marks a schema by the facts of a case.
     pub fn mark(&mut self, schema: &Schema, facts: &Facts) {
         self.states = [None; IDS];
-        self.signals[0] = Signal::True;
+        self.pass(schema, facts);
         for (place, element) in schema.row.iter().enumerate() {
             if let Some(id) = element.id() {
                 self.states[id as usize] = Some(state(facts, id, self.signals[place]));
             }
-            self.signals[place + 1] = self.behind(schema, facts, place, *element);
         }
         for &[source, target] in &schema.edges {
             self.let_wait(source, target);
         }
         self.finished = self.signals[schema.row.len()] == Signal::True;
+    }
+
+    /// The state of one node of the schema; the others are not marked.
+    pub fn state(&mut self, schema: &Schema, facts: &Facts, id: u8) -> State {
+        self.pass(schema, facts);
+        let own = |id: u8| self.signals[schema.place(id)];
+        let is_settled = |id: u8| own(id) == Signal::False || has(facts.done, id);
+        match state(facts, id, own(id)) {
+            State::Activated if !Ids(schema.sources[id as usize]).all(is_settled) => {
+                State::NotActivated
+            }
+            state => state,
+        }
+    }
+
+    fn pass(&mut self, schema: &Schema, facts: &Facts) {
+        self.signals[0] = Signal::True;
+        for (place, element) in schema.row.iter().enumerate() {
+            self.signals[place + 1] = self.behind(schema, facts, place, *element);
+        }
     }
 
     /// An edge's target waits while its source is neither Completed nor Skipped.

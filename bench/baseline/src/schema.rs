@@ -71,6 +71,22 @@ pub fn has(set: u64, id: u8) -> bool {
     (id as usize) < IDS && set >> id & 1 == 1
 }
 
+/// The ids of a set, in ascending order.
+pub struct Ids(pub u64);
+
+impl Iterator for Ids {
+    type Item = u8;
+
+    fn next(&mut self) -> Option<u8> {
+        if self.0 == 0 {
+            return None;
+        }
+        let id = self.0.trailing_zeros() as u8;
+        self.0 &= self.0 - 1;
+        Some(id)
+    }
+}
+
 pub struct Schema {
     pub version: u16,
     pub row: Vec<Element>,

@@ -2,6 +2,11 @@
 
 use baseline::batch::Batch;
 use baseline::case::Case;
+use baseline::lines::{decode, RECORD};
+use baseline::marking::{Marking, State};
+use baseline::records::CaseRecord;
+use baseline::schema::IDS;
+use baseline::stepwise;
 use baseline::verdict::Verdict;
 
 const BATCHES: &[u8] = include_bytes!("../../../crates/judged_batches/stdin");
@@ -17,6 +22,48 @@ fn judge(
             case: 0,
             refusal: Some(*refusal),
         },
+    }
+}
+
+/// Both ways to run a history stop at the same entry, and end in the same marking.
+fn compare_runs(batch: &Batch, case: &mut Case, line: &[u8]) {
+    let mut buffer = [0; RECORD];
+    let Some(record) = decode(line, &mut buffer).and_then(CaseRecord::read) else {
+        return;
+    };
+    let mut facts = case.facts.clone();
+    let mut marking = Marking::default();
+    for schema in [&batch.schema, &batch.plan.changed] {
+        let ran = case.run(schema, record.entries);
+        assert_eq!(
+            ran,
+            stepwise::run(schema, &mut facts, &mut marking, record.entries)
+        );
+        marking.mark(schema, &case.facts);
+        let ids_in = |state| {
+            let is_in = |&id: &usize| marking.states[id] == Some(state);
+            (0..IDS).filter(is_in).fold(0, |ids, id| ids | 1 << id)
+        };
+        assert_eq!(case.activated(schema), ids_in(State::Activated));
+        assert_eq!(case.running(), ids_in(State::Running));
+        assert_eq!(case.skipped(), ids_in(State::Skipped));
+        assert_eq!(case.facts.done, ids_in(State::Completed));
+        assert_eq!(case.is_finished(), marking.finished);
+    }
+}
+
+/// A move is refused for a change exactly if the history does not run on the changed schema.
+fn compare_moves(batch: &Batch, case: &mut Case, line: &[u8], verdict: Verdict) {
+    let number = verdict.refusal.map_or(0, |refusal| refusal.number);
+    if number == 0 || number == 35 {
+        let mut buffer = [0; RECORD];
+        let record = decode(line, &mut buffer)
+            .and_then(CaseRecord::read)
+            .unwrap();
+        assert_eq!(
+            case.run(&batch.plan.changed, record.entries).is_ok(),
+            number == 0
+        );
     }
 }
 
@@ -39,6 +86,10 @@ fn verdicts_are_as_expected() {
                 "case {told}: {}",
                 String::from_utf8_lossy(line)
             );
+            if let Ok(batch) = &batch {
+                compare_runs(batch, &mut case, line);
+                compare_moves(batch, &mut case, line, verdict);
+            }
             told += 1;
         }
     }

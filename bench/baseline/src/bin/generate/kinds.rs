@@ -19,7 +19,7 @@ pub struct Kind {
 pub const KINDS: [Kind; 5] = [
     Kind {
         name: "small",
-        cases: 20_000,
+        cases: 50_000,
         elements: (8, 16),
         nodes: (5, 12),
         blocks: 30,
@@ -31,7 +31,7 @@ pub const KINDS: [Kind; 5] = [
     },
     Kind {
         name: "wide",
-        cases: 10_000,
+        cases: 20_000,
         elements: (122, 124),
         nodes: (48, 60),
         blocks: 60,
@@ -43,7 +43,7 @@ pub const KINDS: [Kind; 5] = [
     },
     Kind {
         name: "long",
-        cases: 5_000,
+        cases: 10_000,
         elements: (124, 127),
         nodes: (62, 62),
         blocks: 70,
@@ -55,7 +55,7 @@ pub const KINDS: [Kind; 5] = [
     },
     Kind {
         name: "changes16",
-        cases: 5_000,
+        cases: 20_000,
         elements: (96, 104),
         nodes: (36, 50),
         blocks: 60,

@@ -1,6 +1,6 @@
 //! Writes a batch of a kind: a schema line, a plan line and case lines. The same seed gives the same batch.
 //!
-//! `generate KIND [CASES [SEED]]`; the verdicts are counted on standard error.
+//! `generate KIND [SEED [CASES]]`; the verdicts are counted on standard error.
 
 mod histories;
 mod kinds;
@@ -118,7 +118,7 @@ fn main() -> io::Result<()> {
     let name = arguments.next().unwrap_or_default();
     let Some(kind) = KINDS.iter().find(|kind| kind.name == name) else {
         let names: Vec<&str> = KINDS.iter().map(|kind| kind.name).collect();
-        eprintln!("usage: generate {} [CASES [SEED]]", names.join("|"));
+        eprintln!("usage: generate {} [SEED [CASES]]", names.join("|"));
         std::process::exit(2);
     };
     let mut number = |default: u64| {
@@ -126,7 +126,7 @@ fn main() -> io::Result<()> {
             .next()
             .map_or(default, |word| word.parse().expect("a number"))
     };
-    let cases = number(kind.cases as u64) as usize;
     let seed = number(1);
+    let cases = number(kind.cases as u64) as usize;
     write_batch(kind, cases, &mut Random::new(seed))
 }
