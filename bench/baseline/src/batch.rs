@@ -23,28 +23,6 @@ impl Batch {
         Ok(Batch { schema, plan })
     }
 
-    /// Judges the case that a line writes.
-    pub fn judge(&self, case: &mut Case, line: &[u8]) -> Verdict {
-        let mut buffer = [0; RECORD];
-        let Some(record) = decode(line, &mut buffer).and_then(CaseRecord::read) else {
-            return Verdict {
-                case: 0,
-                refusal: Some(Refusal::new(1, 5)),
-            };
-        };
-        Verdict {
-            case: record.number,
-            refusal: self.refusal(case, record.entries),
-        }
-    }
-
-    fn refusal(&self, case: &mut Case, entries: &[[u8; 3]]) -> Option<Refusal> {
-        if let Err((place, stop)) = case.run(&self.schema, entries) {
-            return Some(Refusal::at(stop.number(), 6, place, entries[place][1]));
-        }
-        self.move_refusal(case)
-    }
-
     /// Why a case that runs on the schema is not moved, told by looking at it.
     pub fn move_refusal(&self, case: &Case) -> Option<Refusal> {
         Batch::refusal_of_move(&self.plan.conditions, case)
@@ -55,6 +33,46 @@ impl Batch {
             return Some(Refusal::new(33, 6));
         }
         first_failing(conditions, case).map(|(change, id)| Refusal::at(35, 6, change, id))
+    }
+}
+
+/// What cases are judged in, one after the other.
+pub struct Judge<'a> {
+    batch: &'a Batch,
+    case: Case,
+    record: [u8; RECORD],
+}
+
+impl<'a> Judge<'a> {
+    pub fn new(batch: &'a Batch) -> Self {
+        Judge {
+            batch,
+            case: Case::default(),
+            record: [0; RECORD],
+        }
+    }
+
+    /// Judges the case that a line writes.
+    pub fn judge(&mut self, line: &[u8]) -> Verdict {
+        let Some(record) = decode(line, &mut self.record).and_then(CaseRecord::read) else {
+            return Verdict {
+                case: 0,
+                refusal: Some(Refusal::new(1, 5)),
+            };
+        };
+        let refusal = match self.case.run(&self.batch.schema, record.entries) {
+            Ok(()) => self.batch.move_refusal(&self.case),
+            Err((place, stop)) => Some(Refusal::at(
+                stop.number(),
+                6,
+                place,
+                record.entries[place][1],
+            )),
+        };
+        Verdict {
+            case: record.number,
+            refusal,
+        }
     }
 }
 

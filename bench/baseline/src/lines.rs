@@ -58,7 +58,7 @@ const DIGITS: [u8; 256] = {
 
 /// The record that a line writes, in a buffer of the caller.
 pub fn decode<'a>(line: &[u8], record: &'a mut [u8; RECORD]) -> Option<&'a [u8]> {
-    if line.is_empty() || line.len() % 2 != 0 || line.len() > LONGEST {
+    if line.is_empty() || !line.len().is_multiple_of(2) || line.len() > LONGEST {
         return None;
     }
     let mut seen = 0;

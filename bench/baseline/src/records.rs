@@ -30,7 +30,7 @@ pub fn read_plan(record: &[u8]) -> Option<&[[u8; 4]]> {
     let [2, count, changes @ ..] = record else {
         return None;
     };
-    (changes.len() == 4 * *count as usize).then(|| changes.as_chunks().0)
+    (changes.len() == 4 * *count as usize).then_some(changes.as_chunks().0)
 }
 
 #[derive(Clone, Copy)]

@@ -1,23 +1,19 @@
 //! The batches whose verdicts are known: a schema line, a plan line, and case lines with the verdict under each, up to a line `#`.
 
-use baseline::batch::Batch;
+use baseline::batch::{Batch, Judge};
 use baseline::case::Case;
 use baseline::lines::{decode, RECORD};
 use baseline::marking::{Marking, State};
 use baseline::records::CaseRecord;
 use baseline::schema::IDS;
 use baseline::stepwise;
-use baseline::verdict::Verdict;
+use baseline::verdict::{Refusal, Verdict};
 
 const BATCHES: &[u8] = include_bytes!("../../../crates/judged_batches/stdin");
 
-fn judge(
-    batch: &Result<Batch, baseline::verdict::Refusal>,
-    case: &mut Case,
-    line: &[u8],
-) -> Verdict {
+fn judge(batch: &Result<Batch, Refusal>, line: &[u8]) -> Verdict {
     match batch {
-        Ok(batch) => batch.judge(case, line),
+        Ok(batch) => Judge::new(batch).judge(line),
         Err(refusal) => Verdict {
             case: 0,
             refusal: Some(*refusal),
@@ -79,7 +75,7 @@ fn verdicts_are_as_expected() {
         let batch = Batch::read(schema, plan);
         while let Some(line) = lines.next().filter(|line| line != b"#") {
             let expected = lines.next().expect("a verdict stands under each case");
-            let verdict = judge(&batch, &mut case, line);
+            let verdict = judge(&batch, line);
             assert_eq!(
                 String::from_utf8_lossy(&verdict.line()[..20]),
                 String::from_utf8_lossy(expected),

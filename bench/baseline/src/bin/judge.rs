@@ -1,10 +1,21 @@
 //! Judges cases: the first line of standard input is a schema, the second a plan, each other a case; prints a verdict for each case.
 
-use baseline::batch::Batch;
-use baseline::case::Case;
+use baseline::batch::{Batch, Judge};
 use baseline::lines::Lines;
 use baseline::verdict::Verdict;
-use std::io::{self, BufReader, BufWriter, Write};
+use std::io::{self, BufRead, BufReader, BufWriter, Write};
+
+/// Tells the verdict on each line.
+fn tell<R: BufRead>(
+    lines: &mut Lines<R>,
+    out: &mut impl Write,
+    mut judge: impl FnMut(&[u8]) -> Verdict,
+) -> io::Result<()> {
+    while let Some(line) = lines.next_line()? {
+        out.write_all(&judge(line).line())?;
+    }
+    Ok(())
+}
 
 fn main() -> io::Result<()> {
     let mut lines = Lines::new(BufReader::with_capacity(1 << 16, io::stdin().lock()));
@@ -15,17 +26,18 @@ fn main() -> io::Result<()> {
     let Some(plan) = lines.next_line()?.map(<[u8]>::to_vec) else {
         return Ok(());
     };
-    let batch = Batch::read(&schema, &plan);
-    let mut case = Case::default();
-    while let Some(line) = lines.next_line()? {
-        let verdict = match &batch {
-            Ok(batch) => batch.judge(&mut case, line),
-            Err(refusal) => Verdict {
+    match Batch::read(&schema, &plan) {
+        Ok(batch) => {
+            let mut judge = Judge::new(&batch);
+            tell(&mut lines, &mut out, |line| judge.judge(line))?;
+        }
+        Err(refusal) => {
+            let refused = Verdict {
                 case: 0,
-                refusal: Some(*refusal),
-            },
-        };
-        out.write_all(&verdict.line())?;
+                refusal: Some(refusal),
+            };
+            tell(&mut lines, &mut out, |_| refused)?;
+        }
     }
     out.flush()
 }

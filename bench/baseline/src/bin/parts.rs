@@ -49,16 +49,14 @@ fn sum_of<T>(sum: u64, items: &[T], mut answer: impl FnMut(&T) -> u64) -> u64 {
         .fold(sum, |sum, item| sum.wrapping_add(answer(item)))
 }
 
-fn entry_count(line: &[u8]) -> u64 {
-    let mut buffer = [0; RECORD];
-    let record = decode(line, &mut buffer).and_then(CaseRecord::read);
+fn entry_count(line: &[u8], buffer: &mut [u8; RECORD]) -> u64 {
+    let record = decode(line, buffer).and_then(CaseRecord::read);
     record.map_or(0, |record| record.entries.len() as u64)
 }
 
 /// Loads the case of a line and tells what it offers; a refused one is opened.
-fn load(batch: &Batch, case: &mut Case, line: &[u8]) -> u64 {
-    let mut buffer = [0; RECORD];
-    let loaded = decode(line, &mut buffer)
+fn load(batch: &Batch, case: &mut Case, line: &[u8], buffer: &mut [u8; RECORD]) -> u64 {
+    let loaded = decode(line, buffer)
         .and_then(CaseRecord::read)
         .is_some_and(|record| case.run(&batch.schema, record.entries).is_ok());
     if !loaded {
@@ -80,8 +78,8 @@ fn told(failing: Option<(usize, u8)>) -> u64 {
 /// The cases that run on the schema and are not finished then, with their histories.
 fn running_cases(batch: &Batch, lines: &[Vec<u8>]) -> Vec<(Vec<[u8; 3]>, Case)> {
     let mut cases = Vec::new();
+    let mut buffer = [0; RECORD];
     for line in lines {
-        let mut buffer = [0; RECORD];
         let Some(record) = decode(line, &mut buffer).and_then(CaseRecord::read) else {
             continue;
         };
@@ -97,11 +95,12 @@ fn time_all(batch: &Batch, lines: &[Vec<u8>]) {
     let (histories, cases): (Vec<_>, Vec<_>) = running_cases(batch, lines).into_iter().unzip();
     let mut case = Case::default();
     let mut marking = Marking::default();
+    let mut buffer = [0; RECORD];
     time("read", lines.len(), |sum| {
-        sum_of(sum, lines, |line| entry_count(line))
+        sum_of(sum, lines, |line| entry_count(line, &mut buffer))
     });
     time("load", lines.len(), |sum| {
-        sum_of(sum, lines, |line| load(batch, &mut case, line))
+        sum_of(sum, lines, |line| load(batch, &mut case, line, &mut buffer))
     });
     time("run", cases.len(), |sum| {
         sum_of(sum, &histories, |history| {

@@ -8,7 +8,7 @@ mod plans;
 mod random;
 mod rows;
 
-use baseline::batch::Batch;
+use baseline::batch::{Batch, Judge};
 use baseline::case::Case;
 use baseline::lines::encode;
 use baseline::schema::Schema;
@@ -83,7 +83,7 @@ fn write_batch(kind: &Kind, cases: usize, random: &mut Random) -> io::Result<()>
         Batch::read(&schema_line, &plan).expect("the batch was made of a schema and a plan of it");
     let mut out = BufWriter::new(io::stdout().lock());
     let mut verdicts = BTreeMap::new();
-    let mut case = Case::default();
+    let mut judge = Judge::new(&batch);
     out.write_all(&[&schema_line[..], b"\n", &plan, b"\n"].concat())?;
     for number in 0..cases {
         let history = if random.percent(3) {
@@ -95,7 +95,7 @@ fn write_batch(kind: &Kind, cases: usize, random: &mut Random) -> io::Result<()>
         if random.percent(DAMAGED) {
             damage(&mut line, random);
         }
-        let refusal = batch.judge(&mut case, &line).refusal;
+        let refusal = judge.judge(&line).refusal;
         *verdicts
             .entry(refusal.map_or(0, |refusal| refusal.number))
             .or_insert(0) += 1;
