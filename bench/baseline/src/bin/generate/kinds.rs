@@ -13,6 +13,8 @@ pub struct Kind {
     pub loops: usize,
     pub edges: usize,
     pub changes: usize,
+    /// At least so many kinds of changes are in the plan.
+    pub change_kinds: usize,
     pub entries: (usize, usize),
 }
 
@@ -27,6 +29,7 @@ pub const KINDS: [Kind; 5] = [
         loops: 10,
         edges: 1,
         changes: 2,
+        change_kinds: 2,
         entries: (2, 10),
     },
     Kind {
@@ -39,6 +42,7 @@ pub const KINDS: [Kind; 5] = [
         loops: 15,
         edges: 8,
         changes: 2,
+        change_kinds: 2,
         entries: (10, 60),
     },
     Kind {
@@ -51,6 +55,7 @@ pub const KINDS: [Kind; 5] = [
         loops: 0,
         edges: 4,
         changes: 2,
+        change_kinds: 2,
         entries: (119, 123),
     },
     Kind {
@@ -63,6 +68,7 @@ pub const KINDS: [Kind; 5] = [
         loops: 10,
         edges: 6,
         changes: 16,
+        change_kinds: 5,
         entries: (10, 50),
     },
     Kind {
@@ -75,6 +81,7 @@ pub const KINDS: [Kind; 5] = [
         loops: 10,
         edges: 1,
         changes: 1,
+        change_kinds: 1,
         entries: (3, 10),
     },
 ];
