@@ -1,9 +1,9 @@
 #!/usr/bin/env bash
-# Builds the product and the baseline, checks that both judge the same batches alike, and times them on these in one go. The table that it
-# prints is also left as SCRATCH/table.md.
+# Builds the product and the baseline, checks that both judge the same batches alike, and times them on these in one go. The
+# table that it prints is also left as SCRATCH/table.md.
 #
-# bench/run.sh [SCRATCH [ROUNDS [SEED]]]: all that is built and written goes to the folder SCRATCH and stays there, so that a later run
-# builds only what has changed. The checkout stays as it is.
+# bench/run.sh [SCRATCH [ROUNDS [SEED]]]: all that is built and written goes to the folder SCRATCH and stays there, so that a
+# later run builds only what has changed. The checkout stays as it is.
 set -eu
 cd "$(dirname "$0")/.."
 scratch=${1:-${TMPDIR:-/tmp}/kolvezar-bench}
@@ -76,16 +76,19 @@ time_parts() {
 # The shortest time of each part, side by side. Both sides must have answered the same.
 print_table() {
     awk -v kinds="$kinds" '
-        function row(title, ours, theirs,   a, b) {
+        function row(title, ours, theirs) {
             a = best["product", kind, ours]
             b = best["baseline", kind, theirs]
-            printf "| %s | %s | %.1f | %.1f | %.2f |\n", kind, title, a, b, b / a
+            printf "| %s | %s | %.1f | %.1f | %.3f |\n", kind, title, a, b, b / a
         }
         {
             at = $1 SUBSEP $2 SUBSEP $3
             if (!(at in best) || $4 < best[at]) best[at] = $4
             said = $2 SUBSEP $3
-            if (said in answer && answer[said] != $5) { print "answers differ: " $0 >"/dev/stderr"; wrong = 1 }
+            if (said in answer && answer[said] != $5) {
+                print "answers differ: " $0 >"/dev/stderr"
+                wrong = 1
+            }
             answer[said] = $5
         }
         END {

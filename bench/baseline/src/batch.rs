@@ -1,7 +1,7 @@
 //! A schema and a plan of it, by which cases are judged.
 //!
-//! A case is always loaded on the schema that the plan was made of, and its line has at most 128 entries that are steps, so neither a foreign
-//! base nor a full log can occur here.
+//! A case is always loaded on the schema that the plan was made of, and its line has at most 128 entries that are steps, so
+//! neither a foreign base nor a full log can occur here.
 
 use crate::case::Case;
 use crate::conditions::{first_failing, Condition};

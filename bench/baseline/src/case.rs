@@ -1,8 +1,9 @@
 //! Cases that run.
 //!
-//! A step does not mark the row: the case keeps the nodes that the work has reached and those that it will never reach, and a step
-//! moves these sets on from its node. Within a run a signal that is true or false stays so, since facts are only added and each step was
-//! allowed; so each gap is passed at most once in a run, and a run costs entries + elements, not entries × elements.
+//! A step does not mark the row: the case keeps the nodes that the work has reached and those that it will never reach, and a
+//! step moves these sets on from its node. Within a run a signal that is true or false stays so, since facts are only added
+//! and each step was allowed; so each gap is passed at most once in a run, and a run costs entries + elements, not entries ×
+//! elements.
 
 use crate::layout::{Block, BlockKind};
 use crate::schema::{has, Element, Schema, IDS, MOST_ELEMENTS};

@@ -1,7 +1,7 @@
 //! What a change asks of a case that is to be moved.
 //!
-//! The tests rest on three things that hold for each case that came from a run: a node is Running or Completed exactly if it has a fact, a
-//! gap is false exactly if a decision around it was decided for another branch, and then exactly one was.
+//! The tests rest on three things that hold for each case that came from a run: a node is Running or Completed exactly if it
+//! has a fact, a gap is false exactly if a decision around it was decided for another branch, and then exactly one was.
 
 use crate::case::Case;
 use crate::layout::{BlockKind, TOP};

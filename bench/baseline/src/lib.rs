@@ -1,5 +1,5 @@
-//! The judge of cases once more, in plain Rust and written from docs/RULES.md, docs/FORMATS.md and docs/REFUSALS.md alone. It is
-//! what the proved product is timed against, so it takes the ways that are fast and still plain:
+//! The judge of cases once more, in plain Rust and written from docs/RULES.md, docs/FORMATS.md and docs/REFUSALS.md alone. It
+//! is what the proved product is timed against, so it takes the ways that are fast and still plain:
 //!
 //! - ids are below 64, so sets of nodes are `u64`s;
 //! - a schema computes its tables once: places, blocks with their dividers, which nodes each branch holds, sync sources;

@@ -1,6 +1,6 @@
-//! The run as the rules tell it: each entry is judged by the state of its node, from a marking of the whole row before it. `judge` does not run
-//! cases so. It stands here to be timed, since it shows what of a difference comes from the way taken and not from the code, and as a check on
-//! the way that `Case` takes.
+//! The run as the rules tell it: each entry is judged by the state of its node, from a marking of the whole row before it.
+//! `judge` does not run cases so. It stands here to be timed, since it shows what of a difference comes from the way taken and
+//! not from the code, and as a check on the way that `Case` takes.
 
 use crate::case::{Facts, Stop, CHOOSE, END, LEAVE, NO_BRANCH, START};
 use crate::marking::{Marking, State};

@@ -1,4 +1,5 @@
-//! The batches whose verdicts are known: a schema line, a plan line, and case lines with the verdict under each, up to a line `#`.
+//! The batches whose verdicts are known: a schema line, a plan line, and case lines with the verdict under each, up to a line
+//! `#`.
 
 use baseline::batch::{Batch, Judge};
 use baseline::case::Case;

@@ -1,4 +1,5 @@
-//! Judges cases: the first line of standard input is a schema, the second a plan, each other a case; prints a verdict for each case.
+//! Judges cases: the first line of standard input is a schema, the second a plan, each other a case; prints a verdict for each
+//! case.
 
 use baseline::batch::{Batch, Judge};
 use baseline::lines::Lines;

@@ -1,5 +1,6 @@
-//! Times the parts of judging, each apart from the others, as bench/parts does with the product: the same work on the same input, printed in
-//! the same lines. The last part has no counterpart in the product: the histories run with a marking of the row before each entry.
+//! Times the parts of judging, each apart from the others, as bench/parts does with the product: the same work on the same
+//! input, printed in the same lines. The last part has no counterpart in the product: the histories run with a marking of the
+//! row before each entry.
 
 use baseline::batch::Batch;
 use baseline::case::Case;
@@ -21,7 +22,8 @@ const ROUNDS: usize = 60;
 /// A round takes at least so long.
 const ROUND: Duration = Duration::from_millis(2);
 
-/// Times a part over so many lines or cases, and prints its line. A pass takes the part once for each and adds something of each answer.
+/// Times a part over so many lines or cases, and prints its line. A pass takes the part once for each and adds something of
+/// each answer.
 fn time(name: &str, count: usize, mut pass: impl FnMut(u64) -> u64) {
     let once = pass(0);
     let mut sum = 0;
