@@ -59,14 +59,20 @@ check_verdicts() {
     cmp "$scratch/verdicts.product" "$scratch/verdicts.baseline"
 }
 
-# Appends a line: side, batch, part, nanoseconds, and what the part answers.
+# Appends a line: side, batch, part, nanoseconds, and what the part answers. Of a process the processor's time counts, since it
+# is told the same on a busy machine; it is told to a thousandth of a second, so the faster side is run ten times.
 time_judge() {
-    local start end cases
-    cases=$(($(wc -l <"$batches/$2") - 2))
-    start=${EPOCHREALTIME/[.,]/}
-    "$(program "$1" judge)" <"$batches/$2" >/dev/null
-    end=${EPOCHREALTIME/[.,]/}
-    echo "$1 $2 judge $(((end - start) * 10000 / cases)) -" | awk '{ $4 /= 10; print }' >>"$timings"
+    local judge times spent
+    judge=$(program "$1" judge)
+    times=$([ "$1" = product ] && echo 1 || echo 10)
+    spent=$({
+        TIMEFORMAT='%3U %3S'
+        time for ((i = 0; i < times; i++)); do
+            "$judge" <"$batches/$2" >/dev/null
+        done
+    } 2>&1)
+    echo "$spent" | awk -v side="$1" -v batch="$2" -v cases="$((times * ($(wc -l <"$batches/$2") - 2)))" '
+        { printf "%s %s judge %.1f -\n", side, batch, ($1 + $2) * 1e9 / cases }' >>"$timings"
 }
 
 time_parts() {
