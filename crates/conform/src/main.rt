@@ -2,6 +2,10 @@
 // the second a plan, each other a case.
 #![tactic(auto)]
 
+mod help;
+
+use help::HELP;
+use usage::helped;
 use case::case::Case;
 use case_record::CaseRecord;
 use drafts::draft::Draft;
@@ -239,5 +243,8 @@ fn run_all(rt: &HostRuntime) -> anyhow::Result<()> {
 }
 
 fn main(rt: HostRuntime) -> anyhow::Result<()> {
+    if helped(&rt, HELP)? {
+        return Ok(());
+    }
     run_all(&rt)
 }

@@ -1,4 +1,4 @@
-// Lines from a stream, of which no more is held than a line may have.
+// Lines from a stream, of which no more is held than a line may have, and the words of those that say a call.
 #![tactic(auto)]
 
 ghost use Rattle.std.specs.Prelude.{◌≡◌, false, [], IfOk};
@@ -11,6 +11,7 @@ use std::io::BufRead;
 
 #[cfg(test)]
 mod tests;
+pub mod words;
 
 // Takes a line's characters from the front of a chunk of input. Answers how many bytes were used, and whether
 // they end with the newline that ends the line. Both are wanted either way: an `Option` of the count would leave it

@@ -1,6 +1,9 @@
 // Reads schema lines from standard input, and prints for each its outline or why it is refused.
 #![tactic(auto)]
 
+mod help;
+
+use help::HELP;
 use input::next_line;
 use outline::Outline;
 use record::LineBuffer;
@@ -8,6 +11,7 @@ use schema::schema::Schema;
 use schema::space::Space;
 use std::alloc::Global;
 use std::io::{BufReader, BufWriter, Write};
+use usage::helped;
 
 // Prints what was found in one line.
 fn show<W: Write>(out: &mut W, heap: Global, number: u64, line: &LineBuffer) -> anyhow::Result<()> {
@@ -45,5 +49,8 @@ fn run(rt: &HostRuntime) -> anyhow::Result<()> {
 }
 
 fn main(rt: HostRuntime) -> anyhow::Result<()> {
+    if helped(&rt, HELP)? {
+        return Ok(());
+    }
     run(&rt)
 }

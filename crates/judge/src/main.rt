@@ -2,6 +2,10 @@
 // is printed.
 #![tactic(auto)]
 
+mod help;
+
+use help::HELP;
+use usage::helped;
 use case::case::Case;
 use entry_log::{Log, LogRecord};
 use input::next_line;
@@ -79,5 +83,8 @@ fn run(rt: &HostRuntime) -> anyhow::Result<()> {
 }
 
 fn main(rt: HostRuntime) -> anyhow::Result<()> {
+    if helped(&rt, HELP)? {
+        return Ok(());
+    }
     run(&rt)
 }

@@ -2,6 +2,10 @@
 // plans.
 #![tactic(auto)]
 
+mod help;
+
+use help::HELP;
+use usage::helped;
 use draft_rules::PlanRefusal;
 use drafts::draft::Draft;
 use drafts::plan::Plan;
@@ -77,5 +81,8 @@ fn run(rt: &HostRuntime) -> anyhow::Result<()> {
 }
 
 fn main(rt: HostRuntime) -> anyhow::Result<()> {
+    if helped(&rt, HELP)? {
+        return Ok(());
+    }
     run(&rt)
 }

@@ -1,6 +1,10 @@
 // Replays cases on a schema, entry by entry. The first line of standard input is the schema, the others are cases.
 #![tactic(auto)]
 
+mod help;
+
+use help::HELP;
+use usage::helped;
 use case_record::CaseRecord;
 use facts::Facts;
 use input::next_line;
@@ -164,5 +168,8 @@ fn run_all(rt: &HostRuntime) -> anyhow::Result<()> {
 }
 
 fn main(rt: HostRuntime) -> anyhow::Result<()> {
+    if helped(&rt, HELP)? {
+        return Ok(());
+    }
     run_all(&rt)
 }

@@ -2,9 +2,14 @@
 // `open 7`, `start 1`, `finish 1`, `choose 5 1`, `leave 9`, `again 9`, or a case line, which is loaded.
 #![tactic(auto)]
 
+mod help;
+
+use anyhow::anyhow;
 use case::case::Case;
 use entry_log::{Log, LogRecord};
+use help::HELP;
 use input::next_line;
+use input::words::{NoCall, Words, text_of};
 use listing::{History, Ids};
 use lives::CallRefusal;
 use model::Entry;
@@ -13,6 +18,7 @@ use record::LineBuffer;
 use schema::schema::Schema;
 use schema::space::Space;
 use std::io::{BufRead, BufReader, BufWriter, Write};
+use usage::helped;
 
 type LoggedCase<'s, 'a> = Case<'s, Log<'a>, Queue>;
 
@@ -30,26 +36,20 @@ enum Call {
     Again(u8),
 }
 
-// The call that a line says, if it says one.
-fn call_of(line: &str) -> Option<Call> {
-    let mut words = line.split_whitespace();
-    let name = words.next()?;
-    let first = words.next()?;
-    let second = words.next();
-    if words.next().is_some() {
-        return None;
-    }
-    let number = first.parse::<u32>().ok()?;
-    let id = u8::try_from(number).ok();
-    match (name, second) {
-        ("open", None) => Some(Call::Open(number)),
-        ("start", None) => Some(Call::Start(id?)),
-        ("finish", None) => Some(Call::Finish(id?)),
-        ("choose", Some(branch)) => Some(Call::Choose(id?, branch.parse::<u8>().ok()?)),
-        ("leave", None) => Some(Call::Leave(id?)),
-        ("again", None) => Some(Call::Again(id?)),
-        _ => None,
-    }
+// The call that a line says, or why it says none.
+fn call_of(line: &str) -> Result<Call, NoCall> {
+    let mut words = Words::of(line);
+    let call = match words.name() {
+        "open" => Call::Open(words.number()?),
+        "start" => Call::Start(words.byte()?),
+        "finish" => Call::Finish(words.byte()?),
+        "choose" => Call::Choose(words.byte()?, words.byte()?),
+        "leave" => Call::Leave(words.byte()?),
+        "again" => Call::Again(words.byte()?),
+        _ => return Err(NoCall::Name),
+    };
+    words.end()?;
+    Ok(call)
 }
 
 fn make(case: &mut LoggedCase<'_, '_>, call: Call) -> Result<(), CallRefusal> {
@@ -66,25 +66,24 @@ fn make(case: &mut LoggedCase<'_, '_>, call: Call) -> Result<(), CallRefusal> {
     }
 }
 
-// Makes the call that a line says, or loads the case that it writes; `None` if it is neither.
-fn answer(case: &mut LoggedCase<'_, '_>, line: &str) -> Option<Result<(), CallRefusal>> {
+// Makes the call that a line says, or loads the case that it writes.
+fn answer(case: &mut LoggedCase<'_, '_>, line: &str) -> Result<Result<(), CallRefusal>, NoCall> {
     // a case record begins with its type, 03
     if line.starts_with("03") {
-        return Some(case.load(line.as_bytes()));
+        return Ok(case.load(line.as_bytes()));
     }
-    Some(make(case, call_of(line)?))
+    Ok(make(case, call_of(line)?))
 }
 
 // Tells what came of a call, and what worklist and store then hold.
 fn show<W: Write>(
     out: &mut W,
     case: &LoggedCase<'_, '_>,
-    answer: Option<Result<(), CallRefusal>>,
+    answer: Result<(), CallRefusal>,
 ) -> anyhow::Result<()> {
     match answer {
-        Some(Ok(())) => write!(out, "done")?,
-        Some(Err(refusal)) => write!(out, "{refusal}")?,
-        None => write!(out, "no such call")?,
+        Ok(()) => write!(out, "done")?,
+        Err(refusal) => write!(out, "{refusal}")?,
     }
     let offered = Ids(case.worklist().as_slice());
     let history = History(case.store());
@@ -93,39 +92,55 @@ fn show<W: Write>(
     Ok(())
 }
 
-fn run(rt: &HostRuntime) -> anyhow::Result<()> {
-    let mut input = BufReader::new(rt.alloc(), rt.stdin())?;
-    let mut out = BufWriter::new(rt.alloc(), rt.stdout())?;
-    let mut line = LineBuffer::new();
-    next_line(&mut input, &mut line)?;
-    let space = Space::new(rt.alloc())?;
-    match Schema::read_buffered(space, &line) {
-        Ok(schema) => live(&mut input, &mut out, &schema)?,
-        Err(refusal) => writeln!(out, "schema {refusal}")?,
-    }
-    out.flush()?;
-    Ok(())
+// Takes the case through what one line says.
+fn take<W: Write>(
+    out: &mut W,
+    case: &mut LoggedCase<'_, '_>,
+    line: &LineBuffer,
+) -> anyhow::Result<()> {
+    let text = text_of(line)?;
+    let answer = answer(case, text)?;
+    write!(out, "{text}: ")?;
+    show(out, case, answer)
 }
 
-// Takes a case of the schema from call to call, until the input ends.
+// Takes a case of the schema from call to call, until the input ends or a line is no call.
 fn live<R: BufRead, W: Write>(input: &mut R, out: &mut W, schema: &Schema) -> anyhow::Result<()> {
     let mut places = [LogRecord::Noted(Entry::Leave(0)); PLACES];
     let mut case = Case::new(schema, Log::over(&mut places), Queue::new(), 0);
     let mut line = LineBuffer::new();
-    // a count, since input may never end and each loop is proved to end
-    for _ in 0..u64::MAX {
+    // a count, since input may never end and each loop is proved to end; the schema was line 1
+    for number in 2..u64::MAX {
         if !next_line(input, &mut line)? {
             break;
         }
-        let characters = line.line().unwrap_or(b"");
-        let text = str::from_utf8(characters).unwrap_or("");
-        write!(out, "{text}: ")?;
-        let answered = answer(&mut case, text);
-        show(out, &case, answered)?;
+        take(out, &mut case, &line).map_err(|error| anyhow!("line {number}: {error}"))?;
     }
     Ok(())
 }
 
+fn run(rt: &HostRuntime) -> anyhow::Result<()> {
+    let mut input = BufReader::new(rt.alloc(), rt.stdin())?;
+    let mut out = BufWriter::new(rt.alloc(), rt.stdout())?;
+    let mut line = LineBuffer::new();
+    if !next_line(&mut input, &mut line)? {
+        return Ok(());
+    }
+    let space = Space::new(rt.alloc())?;
+    match Schema::read_buffered(space, &line) {
+        Ok(schema) => {
+            let lived = live(&mut input, &mut out, &schema);
+            // what came before a line that is no call is told too
+            out.flush()?;
+            lived
+        }
+        Err(refusal) => Err(anyhow!("line 1: {refusal}")),
+    }
+}
+
 fn main(rt: HostRuntime) -> anyhow::Result<()> {
+    if helped(&rt, HELP)? {
+        return Ok(());
+    }
     run(&rt)
 }

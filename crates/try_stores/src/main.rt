@@ -3,16 +3,22 @@
 // `want 1 5`, which brings the worklists in step. What each then holds is printed.
 #![tactic(auto)]
 
+mod help;
+
+use anyhow::anyhow;
 use entry_log::{Log, LogRecord};
+use help::HELP;
 use history::{Full, Store};
 use ids::IdSet;
 use input::next_line;
+use input::words::{NoCall, Words, byte_of, text_of};
 use listing::{History, Ids, Offered};
 use model::Entry;
 use queue::Queue;
 use record::LineBuffer;
 use std::io::{BufRead, BufReader, BufWriter, Write};
 use table::CompactedTable;
+use usage::helped;
 use worklist::{Board, Worklist, bring_in_step};
 
 // How many places each store has.
@@ -32,40 +38,32 @@ enum Call {
     Want(IdSet),
 }
 
-// The set of the ids that these words write.
-fn ids_of(text: &str) -> Option<IdSet> {
+// The set of the ids that are left.
+fn ids_of(words: Words<'_>) -> Result<IdSet, NoCall> {
     let mut ids = IdSet::empty();
-    for word in text.split_whitespace() {
-        ids = ids.with(Some(word.parse::<u8>().ok()?));
+    for word in words.rest() {
+        ids = ids.with(Some(byte_of(word)?));
     }
-    Some(ids)
+    Ok(ids)
 }
 
-// The call that a line says, if it says one.
-fn call_of(line: &str) -> Option<Call> {
-    if line == "clear" {
-        return Some(Call::Clear);
-    }
-    let (name, rest) = line.split_once(' ')?;
-    match name {
-        "purge" => return Some(Call::Purge(ids_of(rest)?)),
-        "want" => return Some(Call::Want(ids_of(rest)?)),
-        _ => {}
-    }
-    let mut words = rest.split_whitespace();
-    let id = words.next()?.parse::<u8>().ok()?;
-    match (name, words.next(), words.next()) {
-        ("start", None, None) => Some(Call::Add(Entry::Start(id))),
-        ("end", None, None) => Some(Call::Add(Entry::End(id))),
-        ("choose", Some(branch), None) => Some(Call::Add(Entry::Choose(
-            id,
-            branch.parse::<u8>().ok()?,
-        ))),
-        ("leave", None, None) => Some(Call::Add(Entry::Leave(id))),
-        ("offer", None, None) => Some(Call::Offer(id)),
-        ("withdraw", None, None) => Some(Call::Withdraw(id)),
-        _ => None,
-    }
+// The call that a line says, or why it says none.
+fn call_of(line: &str) -> Result<Call, NoCall> {
+    let mut words = Words::of(line);
+    let call = match words.name() {
+        "clear" => Call::Clear,
+        "start" => Call::Add(Entry::Start(words.byte()?)),
+        "end" => Call::Add(Entry::End(words.byte()?)),
+        "choose" => Call::Add(Entry::Choose(words.byte()?, words.byte()?)),
+        "leave" => Call::Add(Entry::Leave(words.byte()?)),
+        "purge" => return Ok(Call::Purge(ids_of(words)?)),
+        "offer" => Call::Offer(words.byte()?),
+        "withdraw" => Call::Withdraw(words.byte()?),
+        "want" => return Ok(Call::Want(ids_of(words)?)),
+        _ => return Err(NoCall::Name),
+    };
+    words.end()?;
+    Ok(call)
 }
 
 // Makes a call on a store; one that is for worklists changes nothing.
@@ -131,10 +129,16 @@ impl Shelf<'_, '_> {
     }
 }
 
-fn run(rt: &HostRuntime) -> anyhow::Result<()> {
-    let mut input = BufReader::new(rt.alloc(), rt.stdin())?;
-    let mut out = BufWriter::new(rt.alloc(), rt.stdout())?;
-    let mut line = LineBuffer::new();
+// Takes all of them through what one line says.
+fn take<W: Write>(out: &mut W, shelf: &mut Shelf<'_, '_>, line: &LineBuffer) -> anyhow::Result<()> {
+    let text = text_of(line)?;
+    let call = call_of(text)?;
+    writeln!(out, "{text}")?;
+    shelf.make(out, call)
+}
+
+// Takes them from line to line, until the input ends or a line is no call.
+fn take_all<R: BufRead, W: Write>(input: &mut R, out: &mut W) -> anyhow::Result<()> {
     let mut records = [LogRecord::Noted(BLANK); PLACES];
     let mut entries = [BLANK; PLACES];
     let mut shelf = Shelf {
@@ -143,24 +147,29 @@ fn run(rt: &HostRuntime) -> anyhow::Result<()> {
         board: Board::new(),
         queue: Queue::new(),
     };
+    let mut line = LineBuffer::new();
     // a count, since input may never end and each loop is proved to end
-    for _ in 0..u64::MAX {
-        if !next_line(&mut input, &mut line)? {
+    for number in 1..u64::MAX {
+        if !next_line(input, &mut line)? {
             break;
         }
-        let text = str::from_utf8(line.line().unwrap_or(b"")).unwrap_or("");
-        match call_of(text) {
-            Some(call) => {
-                writeln!(out, "{text}")?;
-                shelf.make(&mut out, call)?;
-            }
-            None => writeln!(out, "no such call: {text}")?,
-        }
+        take(out, &mut shelf, &line).map_err(|error| anyhow!("line {number}: {error}"))?;
     }
-    out.flush()?;
     Ok(())
 }
 
+fn run(rt: &HostRuntime) -> anyhow::Result<()> {
+    let mut input = BufReader::new(rt.alloc(), rt.stdin())?;
+    let mut out = BufWriter::new(rt.alloc(), rt.stdout())?;
+    let taken = take_all(&mut input, &mut out);
+    // what came before a line that is no call is told too
+    out.flush()?;
+    taken
+}
+
 fn main(rt: HostRuntime) -> anyhow::Result<()> {
+    if helped(&rt, HELP)? {
+        return Ok(());
+    }
     run(&rt)
 }
