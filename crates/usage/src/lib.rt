@@ -7,6 +7,7 @@ ghost use Rattle.usage.specs.Tasks.{after_word};
 #[cfg(test)]
 mod tests;
 
+use anyhow::Context;
 use std::env;
 use std::rt::Env;
 
@@ -32,8 +33,9 @@ impl Task {
 // Prints the help if it is asked for, and tells whether it was. Of other words the first is told as an error.
 pub fn helped<R: Env + Alloc + Print>(rt: &R, help: &str) -> anyhow::Result<bool> {
     let mut task = Task::Work;
-    // the first is the program's name
-    for word in env::args(rt)?.skip(1) {
+    let words = env::args(rt).context("reading the words behind the program's name")?;
+    // the first is the name itself
+    for word in words.skip(1) {
         match task.after(word.as_str()) {
             Some(next) => task = next,
             None => anyhow::bail!("`{word}` is not taken here: `--help` says what is"),
