@@ -1,6 +1,7 @@
 // The words of a line that says a call: its name, and the numbers behind it.
-ghost use Rattle.std.specs.Prelude.{ℕ, List, MatchResult};
-ghost use Rattle.input.specs.Words.{NumberOf, TextOf};
+ghost use Rattle.std.specs.Prelude.{◌≡◌, ℕ, List, MatchResult};
+ghost use Rattle.std.specs.Str.Iter.{split_whitespace_rest};
+ghost use Rattle.input.specs.Words.{NameOf, NextWord, NoWord, NumberNext, NumberOf, TextOf, left};
 
 use record::LineBuffer;
 use std::error::Error;
@@ -62,30 +63,43 @@ pub fn number_of(word: &str) -> Result<u32, NoCall>
 pub struct Words<'a>(SplitWhitespace<'a>);
 
 impl<'a> Words<'a> {
-    pub fn of(text: &'a str) -> Words<'a> {
+    pub fn of(text: &'a str) -> Words<'a>
+        ensures { left result ≡ text.now }
+    {
         Words(text.split_whitespace())
     }
 
     // The name of the call: no word is taken for an empty one, which names none.
-    pub fn name(&mut self) -> &'a str {
+    pub fn name(&mut self) -> &'a str
+        ensures { NameOf (left self.old) result.now (left self.new) }
+    {
         self.0.next().unwrap_or("")
     }
 
     // An id or a branch.
-    pub fn byte(&mut self) -> Result<u8, NoCall> {
+    pub fn byte(&mut self) -> Result<u8, NoCall>
+        ensures { NumberNext 8 (left self.old) result (left self.new) }
+    {
         byte_of(self.0.next().ok_or(NoCall::Missing)?)
     }
 
     // The number of a case.
-    pub fn number(&mut self) -> Result<u32, NoCall> {
+    pub fn number(&mut self) -> Result<u32, NoCall>
+        ensures { NumberNext 32 (left self.old) result (left self.new) }
+    {
         number_of(self.0.next().ok_or(NoCall::Missing)?)
     }
 
-    pub fn rest(self) -> SplitWhitespace<'a> {
-        self.0
+    pub fn rest(self) -> SplitWhitespace<'a>
+        ensures { split_whitespace_rest result ≡ left self.entry }
+    {
+        let Words(words) = self;
+        words
     }
 
-    pub fn end(self) -> Result<(), NoCall> {
+    pub fn end(self) -> Result<(), NoCall>
+        ensures { MatchResult result (λ _. NoWord (left self.entry)) (λ _. (word more : List ℕ) × NextWord (left self.entry) word more) }
+    {
         match self.rest().next() {
             Some(_) => Err(NoCall::More),
             None => Ok(()),
