@@ -157,14 +157,13 @@ module _ {xs : List Element} where
       let at : length (b ++ f) + 0 ≡ p = omega (arith, long, w.at_place) in
       sym (ap (λ zs. get_or zs p Bar) e ∙ ap (λ k. get_or ((b ++ f) ++ w.after) k Bar) (sym at) ∙ get_or-append-add (b ++ f) w.after 0 Bar)
 
-  -- a gap in a block stands no later than the block's end
-  pub within_until : {s p n e : ℕ} → Within xs s p n → Ends xs s e → p ≤ e
-  within_until {s} {p} {n} {e} w z =
-      let v = z.within in
+  -- a gap in a block stands no later than what closes the block
+  within_until : {s p n e m : ℕ} → Within xs s p n → Within xs s e m → Closes (get_or xs e Bar) → p ≤ e
+  within_until {s} {p} {n} {e} w v closes =
       let same : spell_branches w.branches w.after ≡ spell_branches v.branches v.after = sym (inner w) ∙ inner v in
       let a = until_past_branches w.branches 0 w.after in
       let b = until_past_branches v.branches 0 v.after in
-      let shut = until_closes v.after (subst Closes (sym (within_after v)) z.closes) in
+      let shut = until_closes v.after (subst Closes (sym (within_after v)) closes) in
       let u = ap (until 0) same in
       let l = ap length same in
       omega (arith, a, b, shut, u, l, w.at_place, v.at_place)
@@ -180,9 +179,35 @@ module _ {xs : List Element} where
   pub last_branch : {s e f n m : ℕ} → Within xs s e n → Closes (get_or xs e Bar) → Within xs s f m → Closes (get_or xs f Bar) → n ≡ m
   last_branch w closes v shuts = sym (branches_at_end w closes) ∙ branches_at_end v shuts
 
+  -- what closes a block is its end
+  pub closes_end : {s e f n : ℕ} → Within xs s e n → Closes (get_or xs e Bar) → Ends xs s f → e ≡ f
+  closes_end {s} {e} {f} w closes z =
+      let a = within_until w z.within z.closes in
+      let b = within_until z.within w closes in
+      omega (arith, a, b)
+
+  -- a loop has one branch
+  pub loop_first : {s p n e : ℕ} (w : Within xs s p n) → w.opener ≡ LoopStart → Ends xs s e → n ≡ 0
+  loop_first {s} {p} {n} {e} w is z = go z.item.item z.item.parted
+    where
+      from : (x : Item) → xs ≡ z.item.before ++ spell_item x z.item.after → spell_item x z.item.after ≡ LoopStart ∷ spell_branches w.branches w.after
+      from x parted =
+          sym (drop_at z.item.before _ s z.item.at_start) ∙ ap (drop s) (sym parted)
+          ∙ ap (drop s) w.parted ∙ drop_at w.before _ s w.at_start ∙ ap (λ y. y ∷ spell_branches w.branches w.after) is
+
+      go : (x : Item) → xs ≡ z.item.before ++ spell_item x z.item.after → n ≡ 0
+      go (activity i) parted = let no = from (activity i) parted in absurd cc
+      go (loop t i) parted =
+          let same : bars 0 (spell t (LoopEnd i ∷ z.item.after)) ≡ bars 0 (spell_branches w.branches w.after) = ap (λ zs. bars 0 (rest_of zs)) (from (loop t i) parted) in
+          let a = bars_past t 0 (LoopEnd i ∷ z.item.after) in
+          let b = bars_between w.branches w.after in
+          omega (arith, same, a, b, w.number)
+      go (and b) parted = let no = from (and b) parted in absurd cc
+      go (xor i b) parted = let no = from (xor i b) parted in absurd cc
+
   -- a block has one end
   pub one_end : {s e f : ℕ} → Ends xs s e → Ends xs s f → e ≡ f
-  one_end {s} {e} {f} y z = let a = within_until y.within z in let b = within_until z.within y in omega (arith, a, b)
+  one_end y z = closes_end y.within y.closes z
 
 -- an element of the row is among its elements
 pub among_from : (xs : List Element) (u q : ℕ) → q < length xs → Bears (get_or xs q AndSplit) u → Among xs u

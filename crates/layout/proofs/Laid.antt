@@ -7,7 +7,9 @@ use Rattle.model.specs.declared.Element.{Element}
 use Rattle.model.specs.Trees.{Seq, nil, flatten}
 use Rattle.layout.specs.declared.Layout.{Layout}
 use Rattle.layout.specs.Pass.{Tables, outside, no_tables, tables_of, LayoutOf, position_at}
-use Rattle.layout.specs.Gaps.{Rest, free, Stands, Positioned, Ended, OfTree}
+use Rattle.layout.specs.declared.Position.{Position}
+use Rattle.layout.specs.Gaps.{Rest, free, Inside, Stands, Closed, Positioned, Ended, OfTree}
+use Rattle.layout.proofs.Facts.{within_ended}
 use Rattle.layout.proofs.Rests.{rest_all, rest_none}
 use Rattle.layout.proofs.Walks.{Sofar, Walked, walk}
 
@@ -48,13 +50,25 @@ module _ (xs : List Element) (l : Layout) (is : LayoutOf xs l) where
   laid_few : length xs ≤ 128
   laid_few = omega (arith, l.few, is.len)
 
+  -- the block around a gap ends
+  inside_closed : (t : Seq) → xs ≡ flatten t → (p : ℕ) (h : Position) → Inside xs p h h.block → Closed xs h.block
+  inside_closed t e p h = go h.block
+    where
+      go : (o : Option ℕ) → Inside xs p h o → Closed xs o
+      go None w = tt
+      go (Some s) w =
+          let ended = (tables_laid xs laid_few t e).ended s in
+          let r = within_ended _ w ended in
+          (r.0, subst (Ended xs s) r.1 ended)
+
   pub position_stands : (p : ℕ) → OfTree xs (Positioned xs p (position_at l p))
   position_stands p t e = go (ltb p l.len) refl
     where
       go : (b : Bool) → ltb p l.len ≡ b → Positioned xs p (cond b (Some (get_or l.positions p outside)) None)
       go true h =
           let less : p < length xs = omega (arith, ltb-true p l.len h, is.len) in
-          (less, subst (λ qs. Stands xs p (get_or qs p outside)) (sym is.positions) ((tables_laid xs laid_few t e).stood p less))
+          let here = subst (λ qs. Stands xs p (get_or qs p outside)) (sym is.positions) ((tables_laid xs laid_few t e).stood p less) in
+          (less, here, inside_closed t e _ (get_or l.positions p outside) here.inside)
       go false h = omega (arith, ltb-false p l.len h, is.len)
 
   pub end_ends : (s : ℕ) → OfTree xs (Ended xs s (get_or l.ends s None))

@@ -78,16 +78,18 @@ module _ (xs : List Element) (few : length xs ≤ 128) where
         left = subst (λ m. Rest xs m (x ∷ ys)) (sym at) left;
         gap = gap;
         inside = subst (λ m. Inside xs m h h.block) (sym at) (gap_inside (x ∷ ys) h n left gap);
+        later = λ is. let past : n + 1 ≡ n = sym (ap (λ y. gap_of y n) is) ∙ at in absurd (omega arith);
       }
 
-  stands_after : (ys : List Element) (n : ℕ) (h : Position) → Rest xs n (Bar ∷ ys) → Gap xs ys h → Stands xs n h
-  stands_after ys n h left gap =
+  stands_after : (ys : List Element) (n : ℕ) (h : Position) → 0 < h.branch → Rest xs n (Bar ∷ ys) → Gap xs ys h → Stands xs n h
+  stands_after ys n h later left gap =
       let at : gap_of (get_or xs n AndSplit) n ≡ n + 1 = ap (λ y. gap_of y n) (rest_here AndSplit left) in
       record {
         rest = ys;
         left = subst (λ m. Rest xs m ys) (sym at) (rest_next left);
         gap = gap;
         inside = subst (λ m. Inside xs m h h.block) (sym at) (gap_inside ys h (n + 1) (rest_next left) gap);
+        later = λ is. later;
       }
 
   -- past an element that begins no block
@@ -162,7 +164,7 @@ module _ (xs : List Element) (few : length xs ≤ 128) where
         gap = g;
         positions_long = length-set t.positions n (turned h) ∙ w.positions_long;
         ends_long = w.ends_long;
-        stood = stood_next n (turned h) t.positions w.positions_long (rest_less w.left) w.stood (stands_after ys n (turned h) w.left g);
+        stood = stood_next n (turned h) t.positions w.positions_long (rest_less w.left) w.stood (stands_after ys n (turned h) (omega arith) w.left g);
         ended = λ r. sofar_on Bar n us r _ (rest_here Bar w.left) (λ b. b) (w.ended r);
         closing = closing_on n (turned h) t.positions t.ends w.closing;
       }

@@ -89,17 +89,13 @@ gap_of XorJoin p = p
 gap_of LoopStart p = p
 gap_of (LoopEnd i) p = p
 
--- The element at p stands at this position.
+-- The element at p stands at this position; a bar begins no first branch.
 pub record Stands (xs : List Element) (p : ℕ) (h : Position) : Type 0 where
   pub rest : List Element
   pub left : Rest xs (gap_of (slice_index_or xs p AndSplit) p) rest
   pub gap : Gap xs rest h
   pub inside : Inside xs (gap_of (slice_index_or xs p AndSplit) p) h h.block
-
--- The answer about place p: a position exactly within the row.
-abbrev pub Positioned : List Element → ℕ → Option Position → Type 0
-Positioned xs p None = length xs ≤ p
-Positioned xs p (Some h) = (p < length xs) × Stands xs p h
+  pub later : slice_index_or xs p AndSplit ≡ Bar → 0 < h.branch
 
 -- The elements from s to e are one item.
 pub record ItemAt (xs : List Element) (s e : ℕ) : Type 0 where
@@ -118,6 +114,16 @@ pub record Ends (xs : List Element) (s e : ℕ) : Type 0 where
   pub within : Within xs s e branch
   pub closes : Closes (slice_index_or xs e Bar)
   pub item : ItemAt xs s e
+
+-- The block that begins here, if there is one, ends.
+abbrev pub Closed : List Element → Option ℕ → Type 0
+Closed xs None = Unit {0}
+Closed xs (Some s) = (e : ℕ) × Ends xs s e
+
+-- The answer about place p: a position exactly within the row, and the block around it ends.
+abbrev pub Positioned : List Element → ℕ → Option Position → Type 0
+Positioned xs p None = length xs ≤ p
+Positioned xs p (Some h) = (p < length xs) × Stands xs p h × Closed xs h.block
 
 -- Each block ends; what begins none does not.
 abbrev pub Ended : List Element → ℕ → Option ℕ → Type 0
