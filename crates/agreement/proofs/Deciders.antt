@@ -13,7 +13,7 @@ use Rattle.model.specs.Signals.{fact_of, is_false, decided, head_of, ends, after
 use Rattle.agreement.specs.Growth.{has_fact}
 use Rattle.agreement.specs.FalseGaps.{enclosing, enclosing_item, enclosing_and, enclosing_xor, decisions_around, is_other, against}
 use Rattle.agreement.proofs.SoundRows.{Stands, past, past_item}
-use Rattle.agreement.proofs.FalseBlocks.{ends_false, after_false}
+use Rattle.marking.proofs.FalseBlocks.{ends_false, after_false}
 
 -- a signal that so many decisions were against
 abbrev pub Due : Signal → ℕ → Type 0

@@ -1,4 +1,3 @@
-pub mod FalseBlocks
 pub mod FactsAfter
 pub mod Progress
 pub mod Lengths

@@ -11,7 +11,7 @@ pub fn facts_depend_on_entries_alone()
     ensures { FactsDependOnEntriesAlone }
 {}
 
-#[tactic(auto, using(crate::proofs::FalseBlocks::ends_false, crate::proofs::FalseBlocks::after_false))]
+#[tactic(auto, using(marking::proofs::FalseBlocks::ends_false, marking::proofs::FalseBlocks::after_false))]
 pub fn blocks_end_false_as_they_begin()
     ensures { BlocksEndFalseAsTheyBegin }
 {}

@@ -10,7 +10,7 @@ use Rattle.model.specs.declared.Signal.TheVariants.{True, False, None}
 use Rattle.model.specs.Trees.{Seq, nil, cons, activity, spell}
 use Rattle.model.specs.Signals.{fact_of, is_true, is_false, unless_false, after_node, and_joined, ends, after, gaps}
 use Rattle.changes.specs.Changed.{followed_by, beside}
-use Rattle.agreement.proofs.FalseBlocks.{ends_false}
+use Rattle.marking.proofs.FalseBlocks.{ends_false}
 use Rattle.agreement.proofs.SoundRows.{past_item}
 use Rattle.halting.proofs.OwnSignals.{first, at, own_of, own_of_item, first_none, first_assoc}
 use Rattle.halting.proofs.HaltedSignals.{Slowed}

@@ -8,7 +8,7 @@ use Rattle.model.specs.declared.Signal.{Signal}
 use Rattle.model.specs.declared.Signal.TheVariants.{True, False, None}
 use Rattle.model.specs.Trees.{Seq, nil, cons, Item, activity, loop, and, xor, Branches, last, bar, spell, spell_item, spell_branches}
 use Rattle.model.specs.Signals.{is_false, ends, after, gaps, gaps_item, gaps_and}
-use Rattle.agreement.proofs.FalseBlocks.{ends_false, after_false}
+use Rattle.marking.proofs.FalseBlocks.{ends_false, after_false}
 use Rattle.agreement.proofs.SoundRows.{Stands, past, past_item}
 use Rattle.halting.proofs.StoppedSequences.{stop_if, passable, passable_item, within, within_item, within_branches, stopped_ends, stopped_after}
 

@@ -12,7 +12,7 @@ use Rattle.model.specs.declared.Signal.TheVariants.{True, False, None}
 use Rattle.model.specs.Trees.{Seq, Branches, last, bar, spell, spell_item, spell_branches}
 use Rattle.model.specs.Signals.{fact_of, is_true, is_false, unless_false, decided, is_branch, head_of, ends, after, all_true, decided_end, gaps, gaps_item, gaps_and, gaps_xor}
 use Rattle.agreement.specs.Growth.{has_fact}
-use Rattle.agreement.proofs.FalseBlocks.{after_false}
+use Rattle.marking.proofs.FalseBlocks.{after_false}
 use Rattle.agreement.proofs.SoundRows.{Stands, past, past_item}
 use Rattle.agreement.proofs.Deciders.{Sure}
 use Rattle.halting.proofs.StoppedSequences.{passable, within}

@@ -15,42 +15,42 @@ use Rattle.model.specs.Trees.{Seq, nil, cons, Item, activity, loop, and, xor, Br
 use Rattle.model.specs.Signals.{fact_of, is_true, is_false, and_joined, decided, is_branch, head_of, ends, after, all_true, decided_end, gaps, gaps_item, gaps_and, gaps_xor}
 use Rattle.marking.specs.Machine.{choice_of, chosen, turned, ending, gap, start, signals, OfTree}
 
-and_assoc : (a b c : Bool) → ((a && b) && c) ≡ (a && (b && c))
+pub and_assoc : (a b c : Bool) → ((a && b) && c) ≡ (a && (b && c))
 and_assoc true b c = refl
 and_assoc false b c = refl
 
 -- The choice of an open XOR block at branch i, where e ended the decided branch if that is behind.
-abbrev choice_at : Option ℕ → ℕ → Signal → Choice
+abbrev pub choice_at : Option ℕ → ℕ → Signal → Choice
 choice_at Option.None i e = Undecided
 choice_at (Some d) i e = cond (ltb d i) (Behind e) (Ahead (d - i))
 
 -- What ended the decided branch, if it was before branch i, else what is found from there on.
-abbrev found : Option ℕ → ℕ → Signal → Signal → Signal
+abbrev pub found : Option ℕ → ℕ → Signal → Signal → Signal
 found Option.None i e later = later
 found (Some d) i e later = cond (ltb d i) e later
 
-head_at : (k : Bool) (o : Option ℕ) (i : ℕ) (e : Signal) → chosen k (choice_at o i e) ≡ head_of k o i
+pub head_at : (k : Bool) (o : Option ℕ) (i : ℕ) (e : Signal) → chosen k (choice_at o i e) ≡ head_of k o i
 head_at k Option.None i e = refl
 head_at k (Some d) i e = grind (arith, nat_tests)
 
-turned_at : (o : Option ℕ) (i : ℕ) (e g : Signal) → turned (choice_at o i e) g ≡ choice_at o (i + 1) (cond (is_branch o i) g e)
+pub turned_at : (o : Option ℕ) (i : ℕ) (e g : Signal) → turned (choice_at o i e) g ≡ choice_at o (i + 1) (cond (is_branch o i) g e)
 turned_at Option.None i e g = refl
 turned_at (Some d) i e g = grind (arith, nat_tests)
 
-found_more : (o : Option ℕ) (i : ℕ) (e g later : Signal)
+pub found_more : (o : Option ℕ) (i : ℕ) (e g later : Signal)
     → found o (i + 1) (cond (is_branch o i) g e) later ≡ found o i e (cond (is_branch o i) g later)
 found_more Option.None i e g later = refl
 found_more (Some d) i e g later = grind (arith, nat_tests)
 
-found_last : (o : Option ℕ) (i : ℕ) (e g : Signal) → ending (choice_at o (i + 1) (cond (is_branch o i) g e)) ≡ found o i e (cond (is_branch o i) g None)
+pub found_last : (o : Option ℕ) (i : ℕ) (e g : Signal) → ending (choice_at o (i + 1) (cond (is_branch o i) g e)) ≡ found o i e (cond (is_branch o i) g None)
 found_last Option.None i e g = refl
 found_last (Some d) i e g = grind (arith, nat_tests)
 
-found_first : (o : Option ℕ) (e later : Signal) → found o 0 e later ≡ later
+pub found_first : (o : Option ℕ) (e later : Signal) → found o 0 e later ≡ later
 found_first Option.None e later = refl
 found_first (Some d) e later = grind (arith, nat_tests)
 
-choice_first : (f : Fact) → choice_of f ≡ choice_at (decided f) 0 None
+pub choice_first : (f : Fact) → choice_of f ≡ choice_at (decided f) 0 None
 choice_first Nothing = refl
 choice_first Begun = refl
 choice_first Ended = refl

@@ -1,6 +1,7 @@
 -- How signals are computed from left to right, with a stack of open AND and XOR blocks. Assumes nothing.
 --   step fs x st       behind element x: the signal, and the blocks open there
 --   signals fs st xs   the signals of the gaps from here on
+--   reach fs st xs     the gap behind these elements
 -- `OfTree` says that on the row of a tree these are the tree's signals.
 use Rattle.std.specs.Prelude.{◌≡◌, ◌-◌, Bool, true, cond, ◌&&◌, List, [], ◌∷◌, Some, Option, ◌==◌}
 use Rattle.stack.specs.Items.{head}
@@ -96,6 +97,10 @@ start = gap True []
 abbrev pub signals : List Fact → Gap → List Element → List Signal
 signals fs st [] = st.signal ∷ []
 signals fs st (x ∷ xs) = st.signal ∷ signals fs (step fs x st) xs
+
+abbrev pub reach : List Fact → Gap → List Element → Gap
+reach fs st [] = st
+reach fs st (x ∷ xs) = reach fs (step fs x st) xs
 
 abbrev pub OfTree : List Fact → List Element → List Signal → Type 0
 OfTree fs xs gs = (t : Seq) → xs ≡ flatten t → gs ≡ tree_signals fs t

@@ -17,7 +17,7 @@ use Rattle.edges.proofs.TreeOrder.{Once, OnceItem, OnceBranches}
 use Rattle.ids.specs.Sets.{is_id}
 use Rattle.schema.proofs.Wrongs.{decides_bears}
 use Rattle.marking.specs.States.{own}
-use Rattle.agreement.proofs.FalseBlocks.{ends_false}
+use Rattle.marking.proofs.FalseBlocks.{ends_false}
 use Rattle.agreement.proofs.SoundRows.{later, own_later}
 use Rattle.rounds.proofs.HeldItems.{held, held_at, held_item, held_branches}
 
