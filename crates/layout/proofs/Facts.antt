@@ -146,6 +146,23 @@ module _ {xs : List Element} where
   inner : {s p n : ℕ} (w : Within xs s p n) → rest_of (drop s xs) ≡ spell_branches w.branches w.after
   inner {s} {p} {n} w = ap (λ zs. rest_of (drop s zs)) w.parted ∙ ap rest_of (drop_at w.before _ s w.at_start)
 
+  -- nothing outside every block closes one
+  pub whole_closes : {p : ℕ} (t : Seq) → xs ≡ flatten t → p < length xs → Whole xs p → Closes (get_or xs p Bar) → ⊥
+  whole_closes {p} t is less w closes =
+      let e : xs ≡ flatten w.items ++ w.after = w.parted ∙ spell_append w.items w.after in
+      let n = ap length e ∙ length-append (flatten w.items) w.after in
+      let at : length (flatten w.items) + 0 ≡ p = omega (arith, n, w.at_place) in
+      let here : get_or xs p Bar ≡ get_or w.after 0 Bar =
+      ap (λ zs. get_or zs p Bar) e ∙ ap (λ k. get_or (flatten w.items ++ w.after) k Bar) (sym at) ∙ get_or-append-add (flatten w.items) w.after 0 Bar in
+      let shut = until_closes w.after (subst Closes here closes) in
+      let a = ap (until 0) w.parted in
+      let b = until_past w.items 0 w.after in
+      let c = ap (until 0) is in
+      let d = until_past t 0 [] in
+      let l = ap length w.parted in
+      let m = ap length is in
+      omega (arith, shut, a, b, c, d, l, m, w.at_place)
+
   -- from a gap on
   pub within_after : {s p n : ℕ} (w : Within xs s p n) → get_or w.after 0 Bar ≡ get_or xs p Bar
   within_after {s} {p} {n} w =

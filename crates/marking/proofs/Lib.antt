@@ -5,4 +5,6 @@ pub mod Arrays
 pub mod Frees
 pub mod FalseBlocks
 pub mod Reaches
-pub mod Nearby
+pub mod OneGap
+pub mod Around
+pub mod Behind

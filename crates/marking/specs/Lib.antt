@@ -1,3 +1,4 @@
 pub mod Machine
 pub mod States
 pub mod Markings
+pub mod Nearby

@@ -2,5 +2,6 @@
 #![tactic(auto)]
 
 pub mod marking;
+mod nearby;
 mod signals;
 pub mod states;

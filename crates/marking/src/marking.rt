@@ -64,7 +64,7 @@ impl Marking {
 }
 
 // The branch that a decision decided.
-fn decided(fact: Fact) -> Option<u8>
+pub(crate) fn decided(fact: Fact) -> Option<u8>
     ensures { result ≡ decided fact }
 {
     match fact {

@@ -96,7 +96,7 @@ impl Choice {
 
 // What an element does behind `signal`, within the innermost open block. A bar or a join does nothing where no block of
 // its kind is open.
-fn moves(
+pub(crate) fn moves(
     facts: &Facts,
     element: Element,
     signal: Signal,

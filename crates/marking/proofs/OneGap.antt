@@ -1,7 +1,6 @@
 -- The signal of a gap, from what stands before it. Assumes nothing.
-use Rattle.std.proofs.Common.{◌≡◌, ℕ, suc, ◌+◌, ◌-◌, ◌<◌, false, List, [], ◌∷◌, ◌++◌, length, get_or, take, drop, sym, refl, ap, ◌∙◌, subst, arith, append_assoc, length-append}
-use Rattle.std.proofs.lemmas.List.{take_at, drop_at, length-take-le, take-append-drop}
-use Rattle.std.proofs.Math.Seq.{take-suc}
+use Rattle.std.proofs.Common.{◌≡◌, ℕ, ◌+◌, ◌-◌, ◌<◌, false, List, [], ◌∷◌, ◌++◌, length, get_or, take, drop, sym, refl, ap, ◌∙◌, subst, arith, append_assoc, length-append}
+use Rattle.std.proofs.lemmas.List.{take_at, take_more, drop_at, length-take-le, take-append-drop}
 use Rattle.std.specs.List.{slice_range}
 use Rattle.model.specs.declared.Element.{Element}
 use Rattle.model.specs.declared.Element.TheVariants.{Activity, AndSplit, Bar, AndJoin, XorSplit, XorJoin, LoopStart, LoopEnd}
@@ -61,8 +60,7 @@ module _ (fs : List Fact) where
         let x = get_or xs p AndSplit in
         let us = take p xs in
         let long : length us ≡ p = length-take-le p xs (omega arith) in
-        let one : p + 1 ≡ suc p = omega arith in
-        let more : take (p + 1) xs ≡ us ++ x ∷ [] = ap (λ n. take n xs) one ∙ take-suc xs p AndSplit less in
+        let more : take (p + 1) xs ≡ us ++ x ∷ [] = take_more xs p AndSplit less in
         let whole : xs ≡ (us ++ x ∷ []) ++ drop (p + 1) xs = sym (take-append-drop (p + 1) xs) ∙ ap (λ zs. zs ++ drop (p + 1) xs) more in (
           reach fs start us,
           sym (at_front us (drop p xs) p (sym (take-append-drop p xs)) long),
@@ -116,8 +114,7 @@ module _ (fs : List Fact) where
     bar_signal {s} {p} {n} w z less is later =
         let us = take p xs in
         let k = reach fs start us in
-        let one : p + 1 ≡ suc p = omega arith in
-        let more : take (p + 1) xs ≡ us ++ Bar ∷ [] = ap (λ n. take n xs) one ∙ take-suc xs p AndSplit less ∙ ap (λ x. us ++ x ∷ []) is in
+        let more : take (p + 1) xs ≡ us ++ Bar ∷ [] = take_more xs p AndSplit less ∙ ap (λ x. us ++ x ∷ []) is in
         let same : front w z ≡ us ++ Bar ∷ [] = sym (take_at (front w z) w.after (p + 1) (front_long w z)) ∙ ap (take (p + 1)) (sym (parted_front w z)) ∙ more in
         let reached : reach fs start (front w z) ≡ step fs Bar k = ap (reach fs start) same ∙ reach_append fs us (Bar ∷ []) start in
         let o = reach fs start w.before in
