@@ -1,3 +1,4 @@
 pub mod Activities
 pub mod Repeating
 pub mod Moves
+pub mod Entries

@@ -8,7 +8,7 @@ ghost use Rattle.marking.specs.States.{state_in};
 ghost use Rattle.history.specs.Stores.{cleared};
 ghost use Rattle.draft_rules.specs.Plans.{released_of};
 ghost use Rattle.drafts.specs.Views.{planned};
-ghost use Rattle.lives.specs.Calls.{held, entered, repeated, taken, entries_taken};
+ghost use Rattle.lives.specs.Calls.{held, entered, repeated, taken};
 ghost use Rattle.lives.specs.Moves.{move_refusal};
 ghost use Rattle.lives.specs.Lives.{Leaves};
 ghost use Rattle.entering.specs.Changes.{Changed, Reached};
@@ -115,9 +115,9 @@ impl<'s, S: Store> Course<'s, S> {
         self.enter(Some(place), entry)
     }
 
-    // Takes the steps of a record, each judged in full before the next, up to the first that is refused.
+    // Takes the steps of a record, each judged in full before the next, up to the first that is refused; those before it stay.
     pub fn take_all(&mut self, history: CaseRecord<'_>) -> Result<(), CallRefusal>
-        ensures after { Becomes S.view (λ h k. Reached (entries_taken (schema_of self.old) 0 (entries_in history.entry.entries.now) h) k result) self.old self.new }
+        ensures after { Becomes S.view (λ h k. Reached (schema_of self.old) (entries_in history.entry.entries.now) h k result) self.old self.new }
         ensures capacity { (S.view self.new.store).capacity ≡ (S.view self.old.store).capacity }
     {
         for (place, raw) in history.iter().enumerate() {

@@ -5,9 +5,14 @@ use Rattle.model.specs.declared.refusal.SchemaRefusal.{SchemaRefusal}
 use Rattle.record.specs.Hex.{spelled, decoded}
 use Rattle.record.specs.Lines.{Held, Short, Overlong, held_of}
 use Rattle.plan_record.specs.PlanRecords.{read_decoded}
+use Rattle.case_record.specs.CaseRecords as case
+use Rattle.draft_rules.specs.Plans.{PlanParts}
+use Rattle.model.specs.declared.refusal.Reason.{Reason}
+use Rattle.lives.specs.Views.{CaseView}
+use Rattle.lives.specs.Calls as call
 use Rattle.schema.specs.Checks.{SchemaParts}
 use Rattle.drafts.specs.Plans.{begun, by_record}
-use Rattle.judging.specs.Judgements.{by_plan, by_schema}
+use Rattle.judging.specs.Judgements.{by_plan, by_schema, by_load, judged}
 use Rattle.judging.specs.Held.{held_characters}
 
 -- It is spelled the same: a line that is too long spells nothing, as the empty line does.
@@ -30,3 +35,9 @@ pub plan_held : (ds : List ℕ) (held : Held) (S : Result SchemaParts SchemaRefu
 plan_held ds held (Ok S) e =
     ap (λ d. by_plan (by_record (begun S) (read_decoded d))) (ap (λ h. decoded (held_characters h)) e ∙ held_decoded ds)
 plan_held ds held (Err r) e = refl
+
+-- So is a case line.
+pub case_held : (cs : List ℕ) (held : Held) (b : Result PlanParts Reason) (v : CaseView) → held ≡ held_of cs → judged b (held_characters held) v ≡ judged b cs v
+case_held cs held (Ok p) v e =
+    ap (λ d. by_load p (call.by_record (call.opened_on v.number p.base v.store) (case.read_decoded d))) (ap (λ h. decoded (held_characters h)) e ∙ held_decoded cs)
+case_held cs held (Err r) v e = refl

@@ -1,2 +1,3 @@
 pub mod HeldLines
 pub mod Bases
+pub mod Movables

@@ -1,3 +1,4 @@
 pub mod Judgements
 pub mod Batches
 pub mod Held
+pub mod Laws

@@ -102,4 +102,15 @@ impl<'s, S: Store, W: Worklist> Case<'s, S, W> {
         };
         self.load_history(history)
     }
+
+    // Begins a new life on another schema, the base of what is to come, with the case that a line writes: as opening on it and
+    // then loading would, but what an opened case offers is not worked out.
+    pub fn load_on(&mut self, base: &'s Schema, line: &[u8]) -> Result<(), CallRefusal>
+        ensures answer { result ≡ (load_outcome line.now (opened_on self.old.number (parts base.now) (S.view self.old.course.store))).answer }
+        ensures after { view_of S.view W.offered self.new ≡ (load_outcome line.now (opened_on self.old.number (parts base.now) (S.view self.old.course.store))).after }
+        ensures life { Life S.Cost.PLACES (loaded_history line.now (opened_on self.old.number (parts base.now) (S.view self.old.course.store))) (view_of S.view W.offered self.new) }
+    {
+        self.course.begin_on(base);
+        self.load(line)
+    }
 }

@@ -5,13 +5,15 @@ use Rattle.case_record.specs.Entries.{entries_in}
 use Rattle.schema.specs.Schemas.{parts}
 use Rattle.lives.specs.Calls.{taken, entries_taken}
 use Rattle.lives.proofs.Entering.{taken_first, taken_capacity}
-use Rattle.entering.specs.Changes.{Reached}
+use Rattle.entering.specs.Changes.{held_after, Reached}
 use Rattle.entering.specs.Courses.{schema_of, held_in}
+use Rattle.entering.proofs.Entries.{held_first}
 use Rattle.entering.proofs.course.Course.take_all.Goals as goal
 
 pub loop-place-init : goal.loop-place-init
 loop-place-init g c = record {
   same = sym (ap (λ rs. entries_taken (schema_of c.args.self.now) 0 rs (held_in g.S.Store.view c.args.self.now)) c.iter-raw-items.ensures.items);
+  held = sym (ap (λ rs. held_after (schema_of c.args.self.now) 0 rs (held_in g.S.Store.view c.args.self.now)) c.iter-raw-items.ensures.items);
   few = omega (arith, c.iter-raw-items.ensures.few);
   capacity = refl;
   schema = refl;
@@ -33,6 +35,7 @@ loop-place-preserved g c =
     c.in_ok-take.ensures.change in
     record {
       same = at.invariant.same ∙ taken_first S h _ p raw _ more _ t;
+      held = at.invariant.held ∙ held_first S h p raw _ _ more _ t;
       few = omega (arith, at.invariant.few, ap length more);
       capacity = taken_capacity S h p raw _ _ t ∙ at.invariant.capacity;
       schema = c.in_ok-take.ensures.schema ∙ at.invariant.schema;
@@ -52,7 +55,8 @@ returns-in_err-take-clause-after g c =
     c.in_err-take.ensures.change.0 in
     let answer : c.from_residual.result ≡ Err e = search (rules, common_steps) in
     let all = at.invariant.same ∙ taken_first S h _ p raw _ c.in-Some.ensures.steps _ t in
+    let kept = c.in_err-take.ensures.change.1 ∙ sym (at.invariant.held ∙ held_first S h p raw _ _ c.in-Some.ensures.steps _ t) in
     record {
       schema = c.in_err-take.ensures.schema ∙ at.invariant.schema;
-      change = subst (Reached (entries_taken S 0 (entries_in c.args.history.entries.now) (held_in g.S.Store.view c.args.self.now)) k) (sym answer) all;
+      change = subst (Reached S (entries_in c.args.history.entries.now) (held_in g.S.Store.view c.args.self.now) k) (sym answer) (all, kept);
     }
