@@ -1,6 +1,6 @@
 -- Which nodes and sync edges there are after a change. Assumes nothing.
 --   Brings c u, Remains c u    change c brings in node u; it does not take it out
---   Adds c u v, Stays c u v    the same of the edges from u to v
+--   AddsEdge c u v, Stays c u v    the same of the edges from u to v
 use Rattle.std.specs.Prelude.{◌≡◌, ℕ, ◌⊎◌, ◌↔◌, List}
 use Rattle.model.specs.declared.Edge.{Edge}
 use Rattle.model.specs.declared.Element.{Element}
@@ -48,15 +48,15 @@ Stays (InsertBeside a b c) u v = Unit {0}
 Stays (AddEdge e) u v = Unit {0}
 
 -- One is added.
-abbrev pub Adds : Change → ℕ → ℕ → Type 0
-Adds (DropEdge e) u v = ⊥
-Adds (Delete a) u v = ⊥
-Adds (Insert a g) u v = ⊥
-Adds (InsertBeside a b c) u v = ⊥
-Adds (AddEdge e) u v = Leads u v e
+abbrev pub AddsEdge : Change → ℕ → ℕ → Type 0
+AddsEdge (DropEdge e) u v = ⊥
+AddsEdge (Delete a) u v = ⊥
+AddsEdge (Insert a g) u v = ⊥
+AddsEdge (InsertBeside a b c) u v = ⊥
+AddsEdge (AddEdge e) u v = Leads u v e
 
 -- The edges after a change are those that stay and the one that it adds.
 abbrev pub EdgesStayOrAreAdded : Type 0
 EdgesStayOrAreAdded =
     (c : Change) (es : List Edge) (u v : ℕ)
-    → Listed u v (edges_after c es) ↔ ((Listed u v es × Stays c u v) ⊎ Adds c u v)
+    → Listed u v (edges_after c es) ↔ ((Listed u v es × Stays c u v) ⊎ AddsEdge c u v)

@@ -1,5 +1,5 @@
--- Whether changes may be made under a running case: by the states of a few nodes and the places of two entries. Assumes
--- nothing.
+-- Whether changes may be made under a running case: by the signal of a gap, the states of a few nodes and the places of two
+-- entries. Assumes nothing.
 --   hindrance S fs es c    the node by which change c of schema S fails in a case with facts fs and entries es; none if the
 --                          change is accepted
 --   failing S fs es p cs   the first change that fails, each judged on the schema that those before it left, and the node

@@ -3,6 +3,7 @@
 --                          that holds the element, the innermost first
 --   decided_against fs ds  the outermost of these that decided for another branch
 use Rattle.std.specs.Prelude.{ℕ, zero, suc, cond, List, [], ◌∷◌, length, Some, None, Option, slice_index_or}
+use Rattle.std.specs.Option.{option_or}
 use Rattle.model.specs.declared.Element.{Element}
 use Rattle.model.specs.declared.Element.TheVariants.{Activity, AndSplit, Bar, AndJoin, XorSplit, XorJoin, LoopStart, LoopEnd}
 use Rattle.model.specs.declared.Fact.{Fact}
@@ -39,11 +40,7 @@ decisions_within xs (suc n) p = from_position xs (position_in xs p) (λ s. decis
 abbrev pub decisions_at : List Element → ℕ → List (ℕ × ℕ)
 decisions_at xs p = decisions_within xs (length xs) p
 
-abbrev pub or_else : Option ℕ → Option ℕ → Option ℕ
-or_else None o = o
-or_else (Some i) o = Some i
-
 -- In a case that ran at most one of them did.
 abbrev pub decided_against : List Fact → List (ℕ × ℕ) → Option ℕ
 decided_against fs [] = None
-decided_against fs (d ∷ ds) = or_else (decided_against fs ds) (cond (otherwise fs d) (Some d.0) None)
+decided_against fs (d ∷ ds) = option_or (decided_against fs ds) (cond (otherwise fs d) (Some d.0) None)

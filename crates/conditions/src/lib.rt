@@ -1,4 +1,5 @@
-// Whether changes may be made under a running case, by looking at a few states and the order of two entries.
+// Whether changes may be made under a running case, by looking at the signal of a gap, a few states, and the order of two
+// entries.
 #![tactic(auto)]
 
 mod deciders;

@@ -1,4 +1,4 @@
-// What conditions ask of the state of a node, or of a node that there is not.
+// What conditions ask of a state; of a node that the schema has not, there is none.
 ghost use Rattle.std.specs.Prelude.{◌≡◌};
 ghost use Rattle.conditions.specs.Conditions.{is_busy, is_completed, is_skipped};
 

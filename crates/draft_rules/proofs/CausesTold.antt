@@ -1,7 +1,9 @@
 -- Each test of a change tells whether its cause holds. Assumes nothing.
 use Rattle.std.proofs.Common.{◌≡◌, ℕ, ◌<◌, ◌≤◌, Bool, true, false, not, ◌&&◌, ◌||◌, ◌⊎◌, List, [], ◌∷◌, length, is_some, Some, None, Option, Ok, Err, Result, is_ok, Decides, sym, refl, ap, ◌∙◌, subst, inl, inr, eqb, ltb, leb, arith}
-use Rattle.std.proofs.lemmas.Bool.{and_parts, false≢true}
+use Rattle.std.proofs.lemmas.Bool.{and_parts, not-true, false≢true}
 use Rattle.std.proofs.lemmas.Bool.Decides.{Decides-at, Decides-like, Decides-not, Decides-and, Decides-or, Decides-eqb, Decides-ltb, nat_tests}
+use Rattle.bounded.proofs.Answers.{none_there}
+use Rattle.ids.specs.Sets.{is_id}
 use Rattle.model.specs.declared.Element.{Element}
 use Rattle.model.specs.declared.Edge.{Edge}
 use Rattle.model.specs.Paths.{Listed, Proper}
@@ -20,15 +22,15 @@ use Rattle.edges.proofs.SharedLoops.{beside_left}
 use Rattle.schema.specs.Checks.{SchemaParts, Admitted}
 use Rattle.schema.specs.Causes.{Fine}
 use Rattle.schema.specs.Reading.{among}
-use Rattle.schema.proofs.Checked.{checked_fine, checked_nested}
-use Rattle.schema.proofs.Wrongs.{decides_bears}
+use Rattle.schema.proofs.Checked.{checked_fine, checked_nested, edges_fine}
+use Rattle.schema.proofs.Wrongs.{decides_among}
 use Rattle.changes.specs.declared.Change.{Change}
 use Rattle.changes.specs.declared.Change.TheVariants.{DropEdge, Delete, Insert, InsertBeside, AddEdge}
 use Rattle.changes.specs.Effects.{has_activity, stretch, row_after, edges_after}
 use Rattle.changes.specs.Kept.{Brings}
 use Rattle.changes.proofs.Activities.{in_middle}
 use Rattle.changes.proofs.Ids.{found}
-use Rattle.draft_rules.specs.Rules.{adds, any_adds, low_ids, formed, there, new_id, is_new, put_in, unused, fits, edge_kept}
+use Rattle.draft_rules.specs.Rules.{adds, any_adds, low_ids, formed, there, new_id, put_in, unused, fits, edge_kept}
 use Rattle.draft_rules.specs.Causes.{High, PutsIn, SomePutsIn, Misformed, HasActivity, IsThere, Brought, Taken, Over, IsProper}
 
 never : {P : Type 0} → (P → ⊥) → Decides false P
@@ -96,11 +98,7 @@ activity_told : (xs : List Element) (a : ℕ) → Decides (has_activity xs a) (H
 activity_told xs a = (found xs a, λ h. ap (λ ys. has_activity ys a) h.2 ∙ in_middle a h.0 h.1)
 
 whole_told : (xs : List Element) → Decides (not (is_some (fault [] 0 xs))) (Nested xs)
-whole_told xs = (λ e. tells_ok xs (none (fault [] 0 xs) e), λ n. ap (λ o. not (is_some o)) (tree_clean xs n))
-  where
-    none : (o : Option ℕ) → not (is_some o) ≡ true → o ≡ None
-    none None e = refl
-    none (Some p) e = absurd (false≢true e)
+whole_told xs = (λ e. tells_ok xs (none_there (fault [] 0 xs) (not-true _ e)), λ n. ap (λ o. not (is_some o)) (tree_clean xs n))
 
 pub there_told : (S : SchemaParts) (c : Change) → Decides (there S c) (IsThere S c)
 there_told S (DropEdge e) = listed_told S.edges e
@@ -113,18 +111,11 @@ there_told S (AddEdge e) =
     Decides-and _ _ (activity_told S.row e.source) (activity_told S.row e.target)
 
 -- whether its new id was there
-among_told : (xs : List Element) (u : ℕ) → Decides (among xs u) (Among xs u)
-among_told [] u = never (λ h. h)
-among_told (x ∷ xs) u = Decides-or _ _ (decides_bears x u) (among_told xs u)
-
-turned : (a u : ℕ) → Decides (eqb a u) (u ≡ a)
-turned a u = Decides-like _ sym sym (Decides-eqb a u)
-
-brings_told : (c : Change) (u : ℕ) → Decides (is_new (new_id c) u) (Brings c u)
+brings_told : (c : Change) (u : ℕ) → Decides (is_id (new_id c) u) (Brings c u)
 brings_told (DropEdge e) u = never (λ h. h)
 brings_told (Delete a) u = never (λ h. h)
-brings_told (Insert a g) u = turned a u
-brings_told (InsertBeside a b c) u = turned a u
+brings_told (Insert a g) u = Decides-eqb u a
+brings_told (InsertBeside a b c) u = Decides-eqb u a
 brings_told (AddEdge e) u = never (λ h. h)
 
 brought_told : (cs : List Change) (u : ℕ) → Decides (put_in cs u) (Brought cs u)
@@ -139,7 +130,7 @@ module _ (base : List Element) (done : List Change) where
   this_told a =
       Decides-at _ _ (twice (among base a || put_in done a))
       (Decides-like _ (λ w. (a, refl, w)) (λ h. subst Was h.1 h.2)
-      (Decides-or _ _ (among_told base a) (brought_told done a)))
+      (Decides-or _ _ (decides_among base a) (brought_told done a)))
     where
       twice : (b : Bool) → not (not b) ≡ b
       twice true = refl
@@ -171,13 +162,8 @@ module _ (S : SchemaParts) (ok : Admitted S) where
 
   edges_low : (t : Seq) → S.row ≡ flatten t → LowEdges S.edges
   edges_low t is =
-      let passed = all_passed (edges_verdict S.row S.edges) (and_parts _ _ (and_parts _ _ ok.passed).1).1 in
       answer_low (Joins t) (Precedes t) (joins_low t (subst Low is fine.1)) S.edges [] 0
-      (tells S.row S.edges (Ok tt) passed t is fine.0 fine.1)
-    where
-      all_passed : (r : Result (Unit {0}) (ℕ × ℕ)) → is_ok r ≡ true → Ok tt ≡ r
-      all_passed (Ok u) e = refl
-      all_passed (Err p) e = absurd (false≢true e)
+      (tells S.row S.edges (Ok tt) (sym (edges_fine S.row S.edges ok.passed)) t is fine.0 fine.1)
 
   pub kept_told : (c : Change) → Decides (edge_kept S c) (IsProper S c)
   kept_told (DropEdge e) = always tt

@@ -2,13 +2,14 @@
 use Rattle.std.proofs.Common.{◌≡◌, ℕ, Bool, true, false, not, ◌||◌, ◌⊎◌, List, [], ◌∷◌, ◌++◌, is_some, Some, None, Option, sym, subst, inl, inr, refl}
 use Rattle.std.proofs.lemmas.List.{append-nil, append_assoc}
 use Rattle.std.proofs.lemmas.Bool.{and_parts, or_parts, or_left, or_right, or_cases, not-true, leb-true, eq-eqb, both_ways}
+use Rattle.bounded.proofs.Answers.{none_there}
 use Rattle.model.specs.declared.Element.{Element}
 use Rattle.model.specs.Elements.{node_id}
 use Rattle.model.specs.Rows.{Among, Unique}
 use Rattle.ids.specs.Sets.{is_id}
 use Rattle.schema.specs.Reading.{among}
 use Rattle.schema.specs.Checks.{SchemaParts, Admitted}
-use Rattle.schema.proofs.Wrongs.{decides_bears}
+use Rattle.schema.proofs.Wrongs.{decides_among}
 use Rattle.schema.proofs.Checked.{checked_fine}
 use Rattle.changes.specs.declared.Change.{Change}
 use Rattle.changes.specs.declared.Change.TheVariants.{DropEdge, Delete, Insert, InsertBeside, AddEdge}
@@ -18,7 +19,7 @@ use Rattle.changes.proofs.Ids.{remain_or_new}
 use Rattle.draft_rules.specs.declared.ChangeRefusal.{ChangeRefusal}
 use Rattle.draft_rules.specs.declared.ChangeRefusal.TheVariants as refused
 use Rattle.draft_rules.specs.Stages.{changed, changed_all}
-use Rattle.draft_rules.specs.Rules.{there, formed, new_id, is_new, put_in, unused, fits, edge_kept, unless, refusal, all_admitted}
+use Rattle.draft_rules.specs.Rules.{there, formed, new_id, put_in, unused, fits, edge_kept, unless, refusal, all_admitted}
 use Rattle.draft_rules.specs.Laws.{Admissible, AdmittedChangesPassAgain}
 use Rattle.draft_rules.proofs.SchemasPassAgain.{suits, pass_again}
 
@@ -26,31 +27,26 @@ use Rattle.draft_rules.proofs.SchemasPassAgain.{suits, pass_again}
 abbrev pub NodesFrom : List Element → List Change → List Element → Type 0
 NodesFrom base done xs = (u : ℕ) → Among xs u → (among base u ≡ true) ⊎ (put_in done u ≡ true)
 
-among_told : (xs : List Element) (u : ℕ) → Among xs u → among xs u ≡ true
-among_told [] u a = elim a [ ]
-among_told (x ∷ xs) u (inl b) = or_left (is_id (node_id x) u) (among xs u) ((decides_bears x u).1 b)
-among_told (x ∷ xs) u (inr a) = or_right (is_id (node_id x) u) (among xs u) (among_told xs u a)
-
 pub nodes_at_first : (base : List Element) → NodesFrom base [] base
-nodes_at_first base u a = inl (among_told base u a)
+nodes_at_first base u a = inl ((decides_among base u).1 a)
 
 -- what was put in stays so
 put_in_more : (done : List Change) (c : Change) (u : ℕ) → put_in done u ≡ true → put_in (done ++ c ∷ []) u ≡ true
 put_in_more [] c u e = absurd cc
-put_in_more (d ∷ done) c u e = elim (or_cases (is_new (new_id d) u) (put_in done u) e) [
-  | inl h ↦ or_left (is_new (new_id d) u) (put_in (done ++ c ∷ []) u) h
-  | inr h ↦ or_right (is_new (new_id d) u) (put_in (done ++ c ∷ []) u) (put_in_more done c u h)
+put_in_more (d ∷ done) c u e = elim (or_cases (is_id (new_id d) u) (put_in done u) e) [
+  | inl h ↦ or_left (is_id (new_id d) u) (put_in (done ++ c ∷ []) u) h
+  | inr h ↦ or_right (is_id (new_id d) u) (put_in (done ++ c ∷ []) u) (put_in_more done c u h)
 ]
 
-put_in_last : (done : List Change) (c : Change) (u : ℕ) → is_new (new_id c) u ≡ true → put_in (done ++ c ∷ []) u ≡ true
-put_in_last [] c u e = or_left (is_new (new_id c) u) false e
-put_in_last (d ∷ done) c u e = or_right (is_new (new_id d) u) (put_in (done ++ c ∷ []) u) (put_in_last done c u e)
+put_in_last : (done : List Change) (c : Change) (u : ℕ) → is_id (new_id c) u ≡ true → put_in (done ++ c ∷ []) u ≡ true
+put_in_last [] c u e = or_left (is_id (new_id c) u) false e
+put_in_last (d ∷ done) c u e = or_right (is_id (new_id d) u) (put_in (done ++ c ∷ []) u) (put_in_last done c u e)
 
-brings_new : (c : Change) (u : ℕ) → Brings c u → is_new (new_id c) u ≡ true
+brings_new : (c : Change) (u : ℕ) → Brings c u → is_id (new_id c) u ≡ true
 brings_new (DropEdge e) u b = elim b [ ]
 brings_new (Delete a) u b = elim b [ ]
-brings_new (Insert a g) u b = eq-eqb a u (sym b)
-brings_new (InsertBeside a b c) u k = eq-eqb a u (sym k)
+brings_new (Insert a g) u b = eq-eqb u a b
+brings_new (InsertBeside a b c) u k = eq-eqb u a k
 brings_new (AddEdge e) u b = elim b [ ]
 
 -- and so it is after a change
@@ -121,14 +117,10 @@ admissible base done S c from e =
     }
 
 -- what the test of a list says of its first change and of the rest
-none_told : (o : Option ChangeRefusal) → not (is_some o) ≡ true → o ≡ None
-none_told None e = refl
-none_told (Some r) e = absurd cc
-
 pub first_admitted : (base : List Element) (done : List Change) (S : SchemaParts) (c : Change) (cs : List Change) → all_admitted base done S (c ∷ cs) ≡ true
     → (refusal base done S c ≡ None) × (all_admitted base (done ++ c ∷ []) (changed c S) cs ≡ true)
 first_admitted base done S c cs e =
-    let k = and_parts _ _ e in (none_told (refusal base done S c) k.0, k.1)
+    let k = and_parts _ _ e in (none_there (refusal base done S c) (not-true _ k.0), k.1)
 
 -- One admitted change more.
 pub record Stage (base : List Element) (done : List Change) (S : SchemaParts) : Type 0 where

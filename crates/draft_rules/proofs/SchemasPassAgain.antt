@@ -1,6 +1,7 @@
 -- A schema that passed the checks passes them again after an admissible change. Assumes nothing.
 use Rattle.std.proofs.Common.{◌≡◌, ℕ, ◌+◌, ◌-◌, ◌<◌, true, false, not, List, [], ◌∷◌, ◌++◌, is_some, is_ok, Ok, Err, Result, Some, None, Option, sym, refl, ap, ◌∙◌, subst, inl, inr, ⊎_elim}
 use Rattle.std.proofs.lemmas.Bool.{and_parts, not-true, ltb-true, leb-true}
+use Rattle.bounded.proofs.Answers.{none_there}
 use Rattle.model.specs.declared.Edge.{Edge}
 use Rattle.model.specs.Trees.{Seq, flatten}
 use Rattle.model.specs.Relations.{In, Joins}
@@ -12,9 +13,9 @@ use Rattle.edges.specs.Verdicts.{edges_verdict, edge_verdict}
 use Rattle.edges.proofs.RowIds.{among, once_tree, small_tree}
 use Rattle.edges.proofs.Ranks.{answer_low}
 use Rattle.edges.proofs.OrderTold.{tells, judges}
-use Rattle.schema.specs.Checks.{SchemaParts, Admitted, distinct}
+use Rattle.schema.specs.Checks.{SchemaParts, Admitted}
 use Rattle.schema.specs.Causes.{Fine}
-use Rattle.schema.proofs.Checked.{checked_fine, checked_nested}
+use Rattle.schema.proofs.Checked.{checked_fine, checked_nested, edges_fine}
 use Rattle.schema.proofs.Wrongs.{fine_distinct}
 use Rattle.schema.proofs.Passing.{passed_all}
 use Rattle.changes.specs.declared.Change.{Change}
@@ -36,10 +37,6 @@ use Rattle.draft_rules.proofs.RelationsKept.{Kept, Back, kept, turned}
 use Rattle.draft_rules.proofs.ActivitiesPutIn.{in_front, gathered, no_longer_in_front, no_longer_gathered}
 use Rattle.draft_rules.proofs.ChangedEdges.{Pass, joined_in, put_in_pass, taken_out_pass, fewer_pass, one_more}
 
-no_fault : (o : Option ℕ) → is_some o ≡ false → o ≡ None
-no_fault None e = refl
-no_fault (Some n) e = absurd cc
-
 -- what a change needs is there
 pub suits : (S : SchemaParts) (c : Change) → Unique S.row → there S c ≡ true → Suits c S.row
 suits S (DropEdge e) q h = tt
@@ -48,7 +45,7 @@ suits S (Insert a g) q h = leb-true _ _ h
 suits S (InsertBeside a b c) q h =
     let k = and_parts _ _ h in
     let l = and_parts _ _ k.0 in
-    (ltb-true _ _ l.0, leb-true _ _ l.1, tells_ok (stretch b c S.row) (no_fault _ (not-true _ k.1)))
+    (ltb-true _ _ l.0, leb-true _ _ l.1, tells_ok (stretch b c S.row) (none_there _ (not-true _ k.1)))
 suits S (AddEdge e) q h = tt
 
 brings_low : (c : Change) → low_ids c ≡ true → (u : ℕ) → Brings c u → u < 64
@@ -59,15 +56,10 @@ brings_low (InsertBeside a b c) h u k = subst (λ n. n < 64) (sym k) (ltb-true _
 brings_low (AddEdge e) h u b = elim b [ ]
 
 -- what the checks said
-is_passed : (r : Result (Unit {0}) (ℕ × ℕ)) → is_ok r ≡ true → r ≡ Ok tt
-is_passed (Ok tt) e = refl
-is_passed (Err k) e = absurd cc
-
 pub edges_passed : (S : SchemaParts) → Admitted S → (t : Seq) → S.row ≡ flatten t → Pass t S.edges
 edges_passed S c t q =
     let fine = checked_fine S.row S.edges c.passed in
-    let ok = is_passed (edges_verdict S.row S.edges) (and_parts (not (is_some (fault [] 0 S.row))) _ (and_parts (distinct S.row) _ c.passed).1).1 in
-    tells S.row S.edges (Ok tt) (sym ok) t q fine.0 fine.1
+    tells S.row S.edges (Ok tt) (sym (edges_fine S.row S.edges c.passed)) t q fine.0 fine.1
 
 only_ok : (Joins Before : ℕ → ℕ → Type 0) (es earlier : List Edge) (p : ℕ) (r : Result (Unit {0}) (ℕ × ℕ))
     → Answer Joins Before earlier p es (Ok tt) → Answer Joins Before earlier p es r → Ok tt ≡ r

@@ -1,6 +1,6 @@
 -- Why a change is refused, in the words of the rules. Assumes nothing.
---   Misformed, Missing, Taken, Over, Wrong    the causes, in their order
---   ChangeRightly base done S raw r           r is the right answer to four bytes
+--   Misformed, IsThere, Taken, Over, IsProper    the causes, in their order; of IsThere and IsProper it is that they do not hold
+--   ChangeRightly base done S raw r    r is the right answer to four bytes
 use Rattle.std.specs.Prelude.{◌≡◌, ℕ, ◌<◌, ◌≤◌, ◌⊎◌, List, [], ◌∷◌, ◌++◌, length, Ok, Err, Result}
 use Rattle.model.specs.declared.Element.{Element}
 use Rattle.model.specs.declared.Element.TheVariants.{Activity}

@@ -3,6 +3,7 @@
 --   change_judged base done S raw   the change that four bytes spell, or why it is refused
 --   all_admitted base done S cs     each of these changes may come after those before it
 use Rattle.std.specs.Prelude.{ℕ, Bool, true, false, not, ◌&&◌, ◌||◌, List, [], ◌∷◌, ◌++◌, length, is_some, Some, None, Ok, Err, Option, Result, ◌==◌, nat_lt, nat_le}
+use Rattle.ids.specs.Sets.{is_id}
 use Rattle.model.specs.declared.Element.{Element}
 use Rattle.blocks.specs.Blocks.{fault}
 use Rattle.edges.specs.Edges.{listed}
@@ -58,14 +59,10 @@ new_id (Insert a g) = Some a
 new_id (InsertBeside a b c) = Some a
 new_id (AddEdge e) = None
 
-abbrev pub is_new : Option ℕ → ℕ → Bool
-is_new None a = false
-is_new (Some i) a = i == a
-
 -- One of these changes put this id in.
 abbrev pub put_in : List Change → ℕ → Bool
 put_in [] a = false
-put_in (c ∷ cs) a = is_new (new_id c) a || put_in cs a
+put_in (c ∷ cs) a = is_id (new_id c) a || put_in cs a
 
 -- The id is neither in the row that the draft began with, even if it was deleted since, nor was it put in since.
 abbrev pub unused : List Element → List Change → Option ℕ → Bool

@@ -1,12 +1,11 @@
 // Which changes of a schema a draft admits, and why others are refused.
 #![tactic(auto)]
 
-pub mod passing;
-
 ghost use Rattle.std.specs.Prelude.{◌≡◌};
 ghost use Rattle.draft_rules.specs.Reasons.{plan_reason};
 
 pub mod judgements;
+pub mod passing;
 
 use model::refusal::Reason;
 use std::error::Error;

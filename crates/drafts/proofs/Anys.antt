@@ -8,16 +8,16 @@ use Rattle.model.specs.Elements.{node_id}
 use Rattle.schema.specs.Reading.{among}
 use Rattle.changes.specs.declared.Change.{Change}
 use Rattle.changes.specs.Effects.{is_activity, has_activity}
-use Rattle.draft_rules.specs.Rules.{adds, any_adds, new_id, is_new, put_in}
+use Rattle.draft_rules.specs.Rules.{adds, any_adds, new_id, put_in}
 
 pub some_adds : (cs : List Change) → list_any adds cs ≡ any_adds cs
 some_adds cs = same_from_clauses (list_any adds) any_adds (λ c b. adds c || b) refl (λ _ _. refl) (λ _ _. refl) cs
 
 module _ (a : ℕ) where
   abbrev brings : Change → Bool
-  brings c = is_new (new_id c) a
+  brings c = is_id (new_id c) a
 
-  pub some_brings : (cs : List Change) → list_any (λ c. is_new (new_id c) a) cs ≡ put_in cs a
+  pub some_brings : (cs : List Change) → list_any (λ c. is_id (new_id c) a) cs ≡ put_in cs a
   some_brings cs = same_from_clauses (list_any brings) (λ ds. put_in ds a) (λ c b. brings c || b) refl (λ _ _. refl) (λ _ _. refl) cs
 
   abbrev bears : Element → Bool

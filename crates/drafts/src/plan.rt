@@ -22,7 +22,8 @@ fn is_same(one: &Schema, other: &Schema) -> bool
     one.row() == other.row() && one.edges() == other.edges()
 }
 
-// No `impl Model`: the crates above read from a plan that is lent to them that its changes are admitted.
+// The changes that were added, in order, and the schemas before and after each. No `impl Model`: proofs in the crates above
+// read from a plan that its changes are admitted, and a model would hide this ghost field.
 #[derive(Drop)]
 pub struct Plan {
     changes: Bounded<Change, 16>,

@@ -1,4 +1,4 @@
-// Entries are entered in a case's facts and store, and who is then offered.
+// The course of a case: entries are entered in its facts and its store. And who is then offered.
 #![tactic(auto)]
 
 pub mod course;

@@ -1,6 +1,7 @@
 -- An insert halts its gap's followers, and one beside items those behind them. Assumes nothing.
 use Rattle.std.proofs.Common.{◌≡◌, ℕ, ◌+◌, ◌-◌, ◌<◌, ◌≤◌, true, not, ◌&&◌, ltb, leb, List, [], length, is_some, Option, Some, None, refl, ap, ◌∙◌, subst, arith}
-use Rattle.std.proofs.lemmas.Bool.{and_parts, ltb-true, leb-true, false≢true}
+use Rattle.std.proofs.lemmas.Bool.{and_parts, ltb-true, leb-true, not-true}
+use Rattle.bounded.proofs.Answers.{none_there}
 use Rattle.blocks.specs.Blocks.{fault}
 use Rattle.blocks.proofs.RowsOfTrees.{tells_ok}
 use Rattle.model.specs.declared.Element.{Element}
@@ -25,10 +26,6 @@ use Rattle.halting.proofs.Places.{filled_in, number, size, spell_long, Swapped, 
 use Rattle.halting.proofs.GapsOfPlaces.{first_signal, signal_between, first_followers, followers_between}
 use Rattle.halting.proofs.HaltedRows.{row_halts}
 use Rattle.halting.proofs.NewActivities.{in_front, beside_items}
-
-nothing_found : (o : Option ℕ) → not (is_some o) ≡ true → o ≡ None
-nothing_found None e = refl
-nothing_found (Some p) e = absurd (false≢true e)
 
 module _ (S : SchemaParts) (ok : Admitted S) where
   still_unique : (c : Change) → Admissible S c → Suits c S.row → Unique (row_after c S.row)
@@ -75,7 +72,7 @@ insert_beside_halts S a b c ok may fs fresh =
     let o = and_parts (ltb b c) (leb c (length S.row)) p.0 in
     let order : b < c = ltb-true b c o.0 in
     let low : c ≤ length S.row = leb-true c (length S.row) o.1 in
-    let whole : Nested (stretch b c S.row) = tells_ok (stretch b c S.row) (nothing_found (fault [] 0 (stretch b c S.row)) p.1) in
+    let whole : Nested (stretch b c S.row) = tells_ok (stretch b c S.row) (none_there (fault [] 0 (stretch b c S.row)) (not-true _ p.1)) in
     let w = wrapped_up n.0 a b c order (subst (λ xs. c ≤ length xs) n.2 low) (subst (λ xs. Nested (stretch b c xs)) n.2 whole) in
     behind_items S ok n.0 n.2 a fs fresh b c (omega arith) w.0 (row_after (InsertBeside a b c) S.row) (swapped (Gathered a (c - b)) b n.0 w.0 w.1)
     (ap (row_after (InsertBeside a b c)) n.2 ∙ w.2)

@@ -11,7 +11,7 @@ use Rattle.model.specs.Rows.{Among}
 use Rattle.schema.specs.Checks.{SchemaParts, Admitted}
 use Rattle.schema.specs.Reading.{among}
 use Rattle.schema.proofs.Checked.{checked_fine}
-use Rattle.schema.proofs.Wrongs.{decides_bears}
+use Rattle.schema.proofs.Wrongs.{decides_among}
 use Rattle.changes.specs.declared.Change.{Change}
 use Rattle.changes.specs.declared.Change.TheVariants.{DropEdge, Delete, Insert, InsertBeside, AddEdge}
 use Rattle.changes.specs.Kept.{Brings}
@@ -21,10 +21,6 @@ use Rattle.draft_rules.proofs.SchemasPassAgain.{pass_again}
 use Rattle.draft_rules.proofs.ListsPassAgain.{NodesFrom, not_refused, first_admitted, admissible, nodes_after_change}
 use Rattle.conditions.specs.Kinds.{NoEntry}
 use Rattle.looking.proofs.Lists.{AllAdd, InOrder, AllAdmissible}
-
-pub decides_among : (xs : List Element) (u : ℕ) → Decides (among xs u) (Among xs u)
-decides_among [] u = (λ e. absurd (false≢true e), λ h. elim h [ ])
-decides_among (x ∷ xs) u = Decides-or (is_id (node_id x) u) (among xs u) (decides_bears x u) (decides_among xs u)
 
 not_among : (xs : List Element) (u : ℕ) → among xs u ≡ false → Among xs u → ⊥
 not_among xs u e h = true≢false (sym ((decides_among xs u).1 h) ∙ e)

@@ -17,7 +17,7 @@ use Rattle.record.proofs.Writings.{read_from_written}
 use Rattle.schema.specs.Reading.{row_taken, row_read, edge_of}
 use Rattle.schema.specs.Checks.{SchemaParts, Admitted, over, edges_of, by_edges, by_blocks, by_row, by_record, schema_read}
 use Rattle.schema.specs.Causes.{Fine}
-use Rattle.schema.proofs.Checked.{checked_fine}
+use Rattle.schema.proofs.Checked.{checked_fine, no_fault, edges_fine}
 use Rattle.schema.proofs.Onlys.{unique_front}
 use Rattle.schema.proofs.Rights.{decides_large}
 use Rattle.schema.proofs.Wrongs.{not_reused, among_right}
@@ -49,23 +49,14 @@ edges_again : (es : List Edge) → map edge_of (map edge_bytes es) ≡ es
 edges_again [] = refl
 edges_again (e ∷ es) = ap (λ fs. e ∷ fs) (edges_again es)
 
-no_fault : (o : Option ℕ) → not (is_some o) ≡ true → o ≡ None
-no_fault None h = refl
-no_fault (Some p) h = absurd cc
-
-all_proper : (r : Result (Unit {0}) (ℕ × ℕ)) → is_ok r ≡ true → r ≡ Ok tt
-all_proper (Ok u) h = refl
-all_proper (Err e) h = absurd cc
-
 module _ (s : SchemaParts) (a : Admitted s) where
   -- Its record passes the checks.
   by_row_again : by_row s.version (edges_of (raw_of s)) (row_read [] 0 (map element_bytes s.row)) ≡ Ok s
   by_row_again =
-      let h = (and_parts _ _ (and_parts _ _ a.passed).1) in
       ap (by_row s.version (edges_of (raw_of s))) (row_again [] s.row 0 (checked_fine s.row s.edges a.passed))
       ∙ ap (λ es. by_blocks s.version s.row es (fault [] 0 s.row)) (edges_again s.edges)
-      ∙ ap (by_blocks s.version s.row s.edges) (no_fault (fault [] 0 s.row) h.0)
-      ∙ ap (by_edges s.version s.row s.edges) (all_proper (edges_verdict s.row s.edges) h.1)
+      ∙ ap (by_blocks s.version s.row s.edges) (no_fault s.row s.edges a.passed)
+      ∙ ap (by_edges s.version s.row s.edges) (edges_fine s.row s.edges a.passed)
 
   within : (b : Bool) → over (raw_of s) ≡ b
       → cond b (Err refusal.Size) (by_row s.version (edges_of (raw_of s)) (row_read [] 0 (map element_bytes s.row))) ≡ Ok s

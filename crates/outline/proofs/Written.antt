@@ -5,15 +5,11 @@ use Rattle.std.specs.List.{AllByRecursion}
 use Rattle.record.specs.Hex.{Byte, digit, hex, decoded}
 use Rattle.record.specs.Pairs.{unpaired}
 use Rattle.record.proofs.Pairings.{length_unpaired}
-use Rattle.record.proofs.Inverses.{length_hex, decoding_inverts_hex}
+use Rattle.record.proofs.Inverses.{hex_last, length_hex, decoding_inverts_hex}
 
 unpaired_last : (ps : List (ℕ × ℕ)) (p : ℕ × ℕ) → unpaired (ps ++ p ∷ []) ≡ unpaired ps ++ p.0 ∷ p.1 ∷ []
 unpaired_last [] p = refl
 unpaired_last (q ∷ ps) p = ap (λ l. q.0 ∷ q.1 ∷ l) (unpaired_last ps p)
-
-hex_last : (bs : List ℕ) (b : ℕ) → hex (bs ++ b ∷ []) ≡ hex bs ++ digit (b / 16) ∷ digit (b % 16) ∷ []
-hex_last [] b = refl
-hex_last (c ∷ bs) b = ap (λ l. digit (c / 16) ∷ digit (c % 16) ∷ l) (hex_last bs b)
 
 -- One byte more is written.
 pub hex_more : (bs : List ℕ) (i : ℕ) → i < length bs

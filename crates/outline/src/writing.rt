@@ -1,7 +1,7 @@
 // The line of a schema.
 ghost use Rattle.std.specs.Prelude.{◌≡◌, ◌+◌, ◌*◌, ◌<◌, ◌≤◌, ◌++◌, map, length, Some, Ok};
 ghost use Rattle.model.specs.Elements.{kind_byte, id_byte};
-ghost use Rattle.record.specs.Hex.{digit, hex, decoded};
+ghost use Rattle.record.specs.Hex.{hex, decoded};
 ghost use Rattle.record.specs.Pairs.{unpaired};
 ghost use Rattle.record.specs.SchemaRecords.{schema_bytes, schema_line};
 ghost use Rattle.schema.specs.Checks.{schema_read};
@@ -10,22 +10,11 @@ ghost use Rattle.outline.specs.Sayings.{element_bytes, edge_bytes, raw_of};
 
 use arrayvec::ArrayVec;
 use model::{Edge, Element};
+use record::digits;
 use schema::schema::Schema;
 
 // How many bytes the longest record has: of 128 elements and 32 sync edges.
 const RECORD_LIMIT: usize = 325;
-
-// The upper-case character of a value below 16.
-fn digit(value: u8) -> u8
-    requires { value < 16 }
-    ensures { result ≡ digit value }
-{
-    if value < 10 {
-        b'0' + value
-    } else {
-        b'A' + (value - 10)
-    }
-}
 
 fn kind_byte(element: Element) -> u8
     ensures { result ≡ kind_byte element }
@@ -102,8 +91,9 @@ fn spell(bytes: &[u8]) -> ArrayVec<u8, 650>
 {
     let mut line = ArrayVec::new();
     for byte in bytes {
-        line.push(digit(*byte / 16));
-        line.push(digit(*byte % 16));
+        let [high, low] = digits(*byte);
+        line.push(high);
+        line.push(low);
     }
     line
 }

@@ -1,5 +1,5 @@
 -- Decoding inverts the spelling in hexadecimal.
-use Rattle.std.proofs.Common.{◌≡◌, ℕ, ◌+◌, ◌*◌, ◌/◌, ◌%◌, ◌<◌, ◌≤◌, Bool, true, false, cond, ◌||◌, eqb, ltb, List, [], ◌∷◌, length, Some, None, Option, refl, ap, ◌∙◌, subst, arith}
+use Rattle.std.proofs.Common.{◌≡◌, ℕ, ◌+◌, ◌*◌, ◌/◌, ◌%◌, ◌<◌, ◌≤◌, Bool, true, false, cond, ◌||◌, eqb, ltb, List, [], ◌∷◌, ◌++◌, length, Some, None, Option, refl, ap, ◌∙◌, subst, arith}
 use Rattle.std.specs.List.{AllByRecursion}
 use Rattle.std.proofs.lemmas.Bool.{or_parts, eqb-false, ltb-false}
 use Rattle.std.proofs.lemmas.Bool.Decides.{nat_tests}
@@ -9,6 +9,11 @@ use Rattle.record.proofs.Spellings.{decoded_is}
 
 pub never : {X : Type 0} {x : X} {P : Type 0} → None ≡ Some x → P
 never e = let z : ◌≡◌ {A = ℕ} 0 1 = cc in absurd (omega arith)
+
+-- one byte more at the end
+pub hex_last : (bs : List ℕ) (b : ℕ) → hex (bs ++ b ∷ []) ≡ hex bs ++ digit (b / 16) ∷ digit (b % 16) ∷ []
+hex_last [] b = refl
+hex_last (c ∷ bs) b = ap (λ l. digit (c / 16) ∷ digit (c % 16) ∷ l) (hex_last bs b)
 
 value_digit : (v : ℕ) → v < 16 → digit_value (digit v) ≡ Some v
 value_digit v h = grind (arith, nat_tests)

@@ -34,7 +34,7 @@ use Rattle.rounds.proofs.HeldItems.{held_once}
 use Rattle.rounds.proofs.SteadySignals.{Undone, Alike, own_alike, tree_alike}
 use Rattle.rounds.proofs.LoopEdges.{from_outside, AllJoined, checked_joined}
 use Rattle.rounds.proofs.RoundRows.{body_found}
-use Rattle.rounds.proofs.RoundSets.{decides_among}
+use Rattle.schema.proofs.Wrongs.{decides_among}
 
 -- nothing grows to nothing only
 from_nothing : (f : Fact) → Grown f Nothing → f ≡ Nothing

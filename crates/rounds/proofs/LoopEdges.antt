@@ -1,19 +1,16 @@
 -- No sync edge leads out of a loop's body, and none from its test. Assumes nothing.
 use Rattle.std.proofs.Common.{◌≡◌, ℕ, ◌+◌, true, not, List, [], ◌∷◌, ◌++◌, is_some, is_ok, Ok, Err, Result, sym, refl, subst, inl, inr, arith}
-use Rattle.std.proofs.lemmas.Bool.{and_parts}
 use Rattle.model.specs.declared.Edge.{Edge}
 use Rattle.model.specs.Trees.{Seq, nil, cons, Item, activity, loop, and, xor, Branches, last, bar, flatten}
 use Rattle.model.specs.Nodes.{Holds, HoldsItem, HoldsBranches}
 use Rattle.model.specs.Paths.{Answer}
 use Rattle.model.specs.Relations.{In, InItem, InBranches, Level, LevelItem, LevelBranches, Looped, LoopedItem, LoopedBranches, SameLoop, Joins}
 use Rattle.model.specs.Rows.{Precedes}
-use Rattle.blocks.specs.Blocks.{fault}
-use Rattle.edges.specs.Verdicts.{edges_verdict}
 use Rattle.edges.proofs.TreeOrder.{Once, OnceItem, OnceBranches}
 use Rattle.edges.proofs.NodeRelations.{level_in, level_in_item, level_in_branches}
 use Rattle.edges.proofs.OrderTold.{tells}
-use Rattle.schema.specs.Checks.{SchemaParts, Admitted, distinct}
-use Rattle.schema.proofs.Checked.{checked_fine}
+use Rattle.schema.specs.Checks.{SchemaParts, Admitted}
+use Rattle.schema.proofs.Checked.{checked_fine, edges_fine}
 use Rattle.rounds.proofs.HeldItems.{held, held_at, held_branches}
 
 module _ (s v : ℕ) where
@@ -109,13 +106,8 @@ answer_joined t Before [] earlier p a = tt
 answer_joined t Before (e ∷ es) earlier p (inl (ok, a)) = (ok.joins, answer_joined t Before es (earlier ++ e ∷ []) (p + 1) a)
 answer_joined t Before (e ∷ es) earlier p (inr (bad, a)) = absurd (grind arith)
 
-from_is_ok : (r : Result (Unit {0}) (ℕ × ℕ)) → is_ok r ≡ true → r ≡ Ok tt
-from_is_ok (Ok tt) e = refl
-from_is_ok (Err k) e = absurd (grind arith)
-
 -- every edge of a schema that passed the checks joins what may be joined
 pub checked_joined : (S : SchemaParts) → Admitted S → (t : Seq) → S.row ≡ flatten t → AllJoined t S.edges
 checked_joined S c t e =
     let fine = checked_fine S.row S.edges c.passed in
-    let ok = from_is_ok (edges_verdict S.row S.edges) (and_parts (not (is_some (fault [] 0 S.row))) _ (and_parts (distinct S.row) _ c.passed).1).1 in
-    answer_joined t (Precedes t) S.edges [] 0 (tells S.row S.edges (Ok tt) (sym ok) t e fine.0 fine.1)
+    answer_joined t (Precedes t) S.edges [] 0 (tells S.row S.edges (Ok tt) (sym (edges_fine S.row S.edges c.passed)) t e fine.0 fine.1)

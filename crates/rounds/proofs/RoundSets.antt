@@ -14,12 +14,8 @@ use Rattle.schema.specs.Tables.{place_in, position_in}
 use Rattle.schema.specs.declared.schema.Schema.{Schema}
 use Rattle.schema.specs.Schemas.{parts}
 use Rattle.schema.proofs.Checked.{checked_fine}
-use Rattle.schema.proofs.Wrongs.{decides_bears, among_left, among_right}
+use Rattle.schema.proofs.Wrongs.{decides_among, among_left, among_right}
 use Rattle.rounds.specs.Rounds.{behind, within, up_to, between, in_round}
-
-pub decides_among : (xs : List Element) (u : ℕ) → Decides (among xs u) (Among xs u)
-decides_among [] u = (λ e. absurd (false≢true e), λ h. elim h [ ])
-decides_among (x ∷ xs) u = Decides-or (is_id (node_id x) u) (among xs u) (decides_bears x u) (decides_among xs u)
 
 -- one element more
 among_push : (xs : List Element) (x : Element) (id : ℕ) → among (xs ++ x ∷ []) id ≡ (among xs id || is_id (node_id x) id)

@@ -2,6 +2,7 @@
 use Rattle.std.proofs.Common.{◌≡◌, ℕ, ◌≤◌, Bool, true, false, cond, not, ◌&&◌, List, [], ◌∷◌, ◌++◌, length, insert, is_some, nat_lt, nat_le, Some, None, Option, sym, refl, ap, ap₂, ◌∙◌, subst, inl, inr, arith}
 use Rattle.std.proofs.lemmas.List.{take_at, drop_at, length-append}
 use Rattle.std.proofs.lemmas.Bool.{and_parts, not-true, ltb-true, leb-true, le-leb}
+use Rattle.bounded.proofs.Answers.{none_there}
 use Rattle.model.specs.declared.Element.{Element}
 use Rattle.model.specs.declared.Element.TheVariants.{Activity}
 use Rattle.model.specs.declared.Entry.{Entry}
@@ -52,11 +53,7 @@ module _ (S : SchemaParts) (ys : List Element) (a g : ℕ) (H : Halting S ys a g
 
 -- whole items
 whole : (xs : List Element) → not (is_some (fault [] 0 xs)) ≡ true → Nested xs
-whole xs h = tells_ok xs (go (fault [] 0 xs) (not-true _ h))
-  where
-    go : (o : Option ℕ) → is_some o ≡ false → o ≡ None
-    go None q = refl
-    go (Some n) q = absurd cc
+whole xs h = tells_ok xs (none_there (fault [] 0 xs) (not-true _ h))
 
 -- Activity a stood in the row xs at a gap of ys, and nothing else differs.
 record Gone (a : ℕ) (xs ys : List Element) : Type 0 where

@@ -1,8 +1,9 @@
 -- What a schema's own fields tell of its row. Assumes nothing.
-use Rattle.std.proofs.Common.{◌≡◌, ℕ, true, false, List, [], ◌∷◌, is_some, Some, None, Option, refl, ap, inl, inr, arith}
+use Rattle.std.proofs.Common.{◌≡◌, ℕ, true, false, List, [], ◌∷◌, Ok, Some, None, Option, refl, ap, inl, inr, arith}
 use Rattle.std.proofs.lemmas.Bool.{and_parts, not-true}
 use mathlib.Core.Logic.{∥∥₁_elim}
 use base.Stored.{Coded, Coded-set, coded_ℕ, coded_list, coded_via, coded×}
+use Rattle.bounded.proofs.Answers.{none_there, all_right}
 use Rattle.ids.specs.declared.IdSet.{IdSet}
 use Rattle.model.specs.declared.Element.{Element}
 use Rattle.model.specs.declared.Edge.{Edge}
@@ -13,6 +14,7 @@ use Rattle.blocks.specs.Blocks.{fault}
 use Rattle.blocks.proofs.RowsOfTrees.{tells_ok}
 use Rattle.edges.specs.declared.order.Order.{Order}
 use Rattle.edges.specs.Places.{OrderOf}
+use Rattle.edges.specs.Verdicts.{edges_verdict}
 use Rattle.layout.specs.declared.Layout.{Layout}
 use Rattle.layout.specs.declared.Position.{Position}
 use Rattle.layout.specs.Pass.{LayoutOf}
@@ -74,12 +76,14 @@ module _ (row : List Element) (es : List Edge) (e : passes row es ≡ true) wher
   pub checked_fine : Fine row
   checked_fine = distinct_fine row (and_parts _ _ e).0
 
+  pub no_fault : fault [] 0 row ≡ None
+  no_fault = none_there (fault [] 0 row) (not-true _ (and_parts _ _ (and_parts _ _ e).1).0)
+
+  pub edges_fine : edges_verdict row es ≡ Ok tt
+  edges_fine = all_right (edges_verdict row es) (and_parts _ _ (and_parts _ _ e).1).1
+
   pub checked_nested : Nested row
-  checked_nested = tells_ok row (none (fault [] 0 row) (not-true _ (and_parts _ _ (and_parts _ _ e).1).0))
-    where
-      none : (o : Option ℕ) → is_some o ≡ false → o ≡ None
-      none None q = refl
-      none (Some n) q = absurd (let z : ◌≡◌ {A = ℕ} 0 1 = cc in omega arith)
+  checked_nested = tells_ok row no_fault
 
 -- a schema passed the checks
 pub schema_checked : (s : Schema) → Admitted (parts s)

@@ -46,7 +46,7 @@ decides_id : (o : Option ℕ) (u : ℕ) → Decides (is_id o u) (IdIs o u)
 decides_id None u = (λ e. true_false false e refl, λ h. elim h [ ])
 decides_id (Some i) u = Decides-eqb u i
 
-decides_among : (xs : List Element) (u : ℕ) → Decides (among xs u) (Among xs u)
+pub decides_among : (xs : List Element) (u : ℕ) → Decides (among xs u) (Among xs u)
 decides_among [] u = (λ e. true_false false e refl, λ h. elim h [ ])
 decides_among (x ∷ xs) u =
     let d = decides_id (node_id x) u in

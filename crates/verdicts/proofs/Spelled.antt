@@ -2,10 +2,7 @@
 use Rattle.std.proofs.Common.{◌≡◌, ℕ, ◌+◌, ◌*◌, ◌/◌, ◌%◌, ◌<◌, List, [], ◌∷◌, ◌++◌, length, get_or, set, take, sym, refl, ap, ◌∙◌, arith, length-set}
 use Rattle.std.proofs.lemmas.List.{append_assoc, take_more, take_more_set}
 use Rattle.record.specs.Hex.{digit, hex}
-
-hex_last : (bs : List ℕ) (b : ℕ) → hex (bs ++ b ∷ []) ≡ hex bs ++ digit (b / 16) ∷ digit (b % 16) ∷ []
-hex_last [] b = refl
-hex_last (c ∷ bs) b = ap (λ l. digit (c / 16) ∷ digit (c % 16) ∷ l) (hex_last bs b)
+use Rattle.record.proofs.Inverses.{hex_last}
 
 -- One byte more is written.
 pub written_more : (line bs : List ℕ) (p : ℕ) → 2 * p + 1 < length line → p < length bs → take (2 * p) line ≡ hex (take p bs)

@@ -1,14 +1,14 @@
 // What comes of judging a case, and how it is written. Verdicts are only written: nothing reads them.
 #![tactic(auto)]
 
-ghost use Rattle.std.specs.Prelude.{◌≡◌, ◌/◌, ◌%◌, ◌<◌, [], ◌∷◌};
-ghost use Rattle.record.specs.Hex.{digit};
+ghost use Rattle.std.specs.Prelude.{◌≡◌, ◌/◌, ◌%◌, [], ◌∷◌};
 ghost use Rattle.verdicts.specs.Verdicts.{verdict_bytes, verdict_line, place_of, id_of};
 
 #[cfg(test)]
 mod tests;
 
 use model::refusal::Reason;
+use record::digits;
 
 // The case with this number was moved, or why it was not.
 #[derive(Clone, Copy, PartialEq, Eq, Debug)]
@@ -17,27 +17,9 @@ pub struct Verdict {
     pub case: u32,
 }
 
-// The upper-case character of a value below 16.
-fn digit(value: u8) -> u8
-    requires { value < 16 }
-    ensures { result ≡ digit value }
-{
-    if value < 10 {
-        b'0' + value
-    } else {
-        b'A' + (value - 10)
-    }
-}
-
-// The two characters of a byte.
-fn characters(byte: u8) -> [u8; 2]
-    ensures { result ≡ digit (byte / 16) ∷ digit (byte % 16) ∷ [] }
-{
-    [digit(byte / 16), digit(byte % 16)]
-}
-
 impl Verdict {
-    // The two bytes of its place, of which there are fewer than 65,536.
+    // The two bytes of its place, FFFF where there is none. A place in a record is below 65,536; of a greater one, which no
+    // refusal tells, the low 16 bits are written.
     fn place(&self) -> [u8; 2]
         ensures { result ≡ place_of self.now.refusal / 256 % 256 ∷ place_of self.now.refusal % 256 ∷ [] }
     {
@@ -81,7 +63,7 @@ impl Verdict {
     {
         let mut line = [b'0'; 20];
         for (place, byte) in self.bytes().iter().enumerate() {
-            let [high, low] = characters(*byte);
+            let [high, low] = digits(*byte);
             line[2 * place] = high;
             line[2 * place + 1] = low;
         }

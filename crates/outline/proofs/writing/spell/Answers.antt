@@ -16,7 +16,7 @@ push-requires-in-loop-byte c =
 
 pub loop-byte-preserved : goal.loop-byte-preserved
 loop-byte-preserved c =
-    rw (c.push-in-loop-byte.ensures.items, c.push.ensures.items, c.loop-byte.invariant, c.digit.ensures, c.digit-in-loop-byte.ensures)
+    rw (c.push-in-loop-byte.ensures.items, c.push.ensures.items, c.loop-byte.invariant, c.digits.ensures)
     (hex_more c.args.bytes.now c.loop-byte.byte-index c.loop-byte-test.true)
 
 pub returns-clause-decoded : goal.returns-clause-decoded
