@@ -3,7 +3,7 @@ use Rattle.std.proofs.Common.{◌≡◌, ℕ, Bool, true, false, cond, ◌||◌,
 use Rattle.std.proofs.lemmas.Bool.Decides.{nat_tests}
 use Rattle.model.specs.declared.refusal.SchemaRefusal.{SchemaRefusal}
 use Rattle.record.specs.Hex.{spelled, decoded}
-use Rattle.record.specs.Lines.{Held, Short, Overlong, held_of}
+use Rattle.record.specs.Lines.{HeldLine, Short, Overlong, held_of}
 use Rattle.plan_record.specs.PlanRecords.{read_decoded}
 use Rattle.case_record.specs.CaseRecords as case
 use Rattle.draft_rules.specs.Plans.{PlanParts}
@@ -31,13 +31,13 @@ held_decoded cs = go (leb (length cs) 1024) refl
     go false h = long (eqb (length cs) 0) (above h)
 
 -- A plan line is read by what it spells.
-pub plan_held : (ds : List ℕ) (held : Held) (S : Result SchemaParts SchemaRefusal) → held ≡ held_of ds → by_schema (held_characters held) S ≡ by_schema ds S
+pub plan_held : (ds : List ℕ) (held : HeldLine) (S : Result SchemaParts SchemaRefusal) → held ≡ held_of ds → by_schema (held_characters held) S ≡ by_schema ds S
 plan_held ds held (Ok S) e =
     ap (λ d. by_plan (by_record (begun S) (read_decoded d))) (ap (λ h. decoded (held_characters h)) e ∙ held_decoded ds)
 plan_held ds held (Err r) e = refl
 
 -- So is a case line.
-pub case_held : (cs : List ℕ) (held : Held) (b : Result PlanParts Reason) (v : CaseView) → held ≡ held_of cs → judged b (held_characters held) v ≡ judged b cs v
+pub case_held : (cs : List ℕ) (held : HeldLine) (b : Result PlanParts Reason) (v : CaseView) → held ≡ held_of cs → judged b (held_characters held) v ≡ judged b cs v
 case_held cs held (Ok p) v e =
     ap (λ d. by_load p (call.by_record (call.opened_on v.number p.base v.store) (case.read_decoded d))) (ap (λ h. decoded (held_characters h)) e ∙ held_decoded cs)
 case_held cs held (Err r) v e = refl

@@ -78,9 +78,9 @@ pub struct LineBuffer {
 
 // A clause sees what is held of the line.
 impl Model for LineBuffer {
-    ghost use Rattle.record.specs.Lines.{Held, held_of};
+    ghost use Rattle.record.specs.Lines.{HeldLine, held_of};
 
-    ghost Value = { Held };
+    ghost Value = { HeldLine };
 
     ghost view = { λ b. held_of b.chars.items };
 }
