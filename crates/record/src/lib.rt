@@ -1,7 +1,7 @@
 // Lines and the records that they spell.
 #![tactic(auto)]
 
-mod digits;
+mod hex;
 mod items;
 mod laws;
 mod lines;
@@ -11,7 +11,7 @@ mod schemas;
 mod tests;
 
 use arrayvec::ArrayVec;
-pub use digits::digits;
+pub use hex::digits;
 pub use items::item;
 pub use laws::{decoding_inverts_hex, reading_inverts_writing};
 use model::refusal::SchemaRefusal;

@@ -10,8 +10,8 @@ loop-place-preserved c =
     let bs = c.bytes.result in
     let long = c.loop-place.invariant.0 in
     let ten : length bs ≡ 10 = ap length c.bytes.ensures in
-    let two = c.characters.ensures in
-    let same : set (set line (2 * p) (get_or c.characters.result 0 0)) (2 * p + 1) (get_or c.characters.result 1 0)
+    let two = c.digits.ensures in
+    let same : set (set line (2 * p) (get_or c.digits.result 0 0)) (2 * p + 1) (get_or c.digits.result 1 0)
     ≡ set (set line (2 * p) (digit (get_or bs p 0 / 16))) (2 * p + 1) (digit (get_or bs p 0 % 16)) =
     ap (λ (cs : List ℕ). set (set line (2 * p) (get_or cs 0 0)) (2 * p + 1) (get_or cs 1 0)) two in (
       length-set _ (2 * p + 1) _ ∙ length-set line (2 * p) _ ∙ long,
