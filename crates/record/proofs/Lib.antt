@@ -1,6 +1,8 @@
 pub mod Pieces
 pub mod Pairings
+pub mod DigitValues
 pub mod Spellings
+pub mod Flags
 pub mod Partings
 pub mod Inverses
 pub mod Formats

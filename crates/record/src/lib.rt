@@ -1,6 +1,7 @@
 // Lines and the records that they spell.
 #![tactic(auto)]
 
+mod digit_values;
 mod hex;
 mod items;
 mod laws;
@@ -56,18 +57,19 @@ impl From<Malformed> for SchemaRefusal {
 // The bytes that a line spells.
 #[derive(Drop)]
 pub struct Record {
-    bytes: ArrayVec<u8, RECORD_LIMIT>,
+    bytes: [u8; RECORD_LIMIT],
+    len: usize,
 }
 
 // A clause sees the bytes.
 impl Model for Record {
-    ghost use Rattle.std.specs.Prelude.{ℕ, ◌≤◌, List, length};
+    ghost use Rattle.std.specs.Prelude.{◌≡◌, ℕ, ◌≤◌, List, length, take};
 
     ghost Value = { List ℕ };
 
-    ghost view = { λ r. r.bytes.items };
+    ghost view = { λ r. take r.len r.bytes };
 
-    ghost invariant = { λ r. length r.bytes.items ≤ 512 };
+    ghost invariant = { λ r. (r.len ≤ 512) × (length r.bytes ≡ 512) };
 }
 
 // A line as it comes in. Of a line that is too long, the first characters are held.

@@ -1,27 +1,9 @@
 // Reading a line's hexadecimal.
 ghost use Rattle.std.specs.Prelude.{◌≡◌, ◌≤◌, length};
-ghost use Rattle.record.specs.Hex.{byte_of, digit_value};
 ghost use Rattle.record.specs.Records.{DecodesTo};
 
-use crate::{LINE_LIMIT, Malformed, Record};
-use arrayvec::ArrayVec;
-
-// What an upper-case hexadecimal digit stands for; any other character is none.
-fn digit_value(character: u8) -> Option<u8>
-    ensures { result ≡ digit_value character }
-{
-    match character {
-        b'0'..=b'9' => Some(character - b'0'),
-        b'A'..=b'F' => Some(character - b'A' + 10),
-        _ => None,
-    }
-}
-
-fn byte_of(high: u8, low: u8) -> Option<u8>
-    ensures { result ≡ byte_of high low }
-{
-    Some(16 * digit_value(high)? + digit_value(low)?)
-}
+use crate::digit_values::digit_value;
+use crate::{LINE_LIMIT, Malformed, RECORD_LIMIT, Record};
 
 // The record that a line spells, if it is hexadecimal of at least one byte and not too long.
 impl TryFrom<&[u8]> for Record {
@@ -33,11 +15,22 @@ impl TryFrom<&[u8]> for Record {
         if line.is_empty() || line.len() % 2 != 0 || line.len() > LINE_LIMIT {
             return Err(Malformed);
         }
-        let mut bytes = ArrayVec::new();
-        for &[high, low] in line.as_chunks::<2>().0 {
-            bytes.push(byte_of(high, low).ok_or(Malformed)?);
+        let mut bytes = [0; RECORD_LIMIT];
+        // 16 or more once a character was no digit
+        let mut seen = 0;
+        for (i, &[high, low]) in line.as_chunks::<2>().0.iter().enumerate() {
+            let high = digit_value(high);
+            let low = digit_value(low);
+            seen |= high | low;
+            bytes[i] = high.wrapping_mul(16).wrapping_add(low);
         }
-        Ok(Record { bytes })
+        if seen >= 16 {
+            return Err(Malformed);
+        }
+        Ok(Record {
+            bytes,
+            len: line.len() / 2,
+        })
     }
 }
 
@@ -46,6 +39,6 @@ impl Record {
         ensures bytes { result.now ≡ self.now }
         ensures few { length result.now ≤ 512 }
     {
-        self.bytes.as_slice()
+        &self.bytes[..self.len]
     }
 }

@@ -1,10 +1,10 @@
-use Rattle.std.proofs.Common.{◌≡◌, ℕ, List, [], Option, ◌<◌, length, get_or, Some, None, sym, refl, ap, ◌∙◌, arith, rules}
+use Rattle.std.proofs.Common.{◌≡◌, ℕ, ◌/◌, ◌<◌, List, [], Option, length, take, Some, None, sym, refl, ap, ◌∙◌, arith, rules, length-set}
 use Rattle.std.proofs.lemmas.Bool.{eqb-true}
-use Rattle.std.proofs.lemmas.Result.{err_from_is_err_and}
-use Rattle.std.proofs.lemmas.Grind.{common_steps}
-use Rattle.record.specs.Hex.{after, byte_of, decoded}
+use Rattle.std.proofs.lemmas.List.{take_more_set}
+use Rattle.record.specs.Hex.{after, decoded}
+use Rattle.record.proofs.Flags.{told_more}
 use Rattle.record.proofs.Meanings.{decodes_to_none, spells_some}
-use Rattle.record.proofs.Spellings.{decoded_is, decoded_empty, decoded_odd, decoded_long, spelled_by, spelled_chunks, spelled_more, spelled_stops, spelled_all}
+use Rattle.record.proofs.Spellings.{decoded_is, decoded_empty, decoded_odd, decoded_long, spelled_by, spelled_chunks, spelled_all}
 use Rattle.record.proofs.records.RecordTryFromRefSliceU8.try_from.Goals as goal
 use Rattle.record.proofs.records.RecordTryFromRefSliceU8.try_from.Goals.{then-is_empty-via-then-is_empty, then-is_empty-via-else-is_empty+then-line-ne0, then-is_empty-via-else-is_empty+else-line-ne0+then-line-gt-LINE_LIMIT}
 
@@ -22,36 +22,36 @@ after_nothing : (o : Option (List ℕ)) → o ≡ after [] o
 after_nothing None = refl
 after_nothing (Some bs) = refl
 
-pub loop-high-init : goal.loop-high-init
-loop-high-init c =
+pub loop-i-init : goal.loop-i-init
+loop-i-init c =
     let chunks = spelled_chunks _ c.if-line-ne0.false ∙ ap spelled_by (sym c.as_chunks.ensures.front) in
-    record { long = ap length c.new-bytes.ensures; so_far = rw c.new-bytes.ensures (chunks ∙ after_nothing _) }
+    record { long = refl; told = record { digits = λ small. chunks ∙ after_nothing _; other = λ big. absurd (omega arith) } }
 
-pub returns-in_err-ok_or : goal.returns-in_err-ok_or
-returns-in_err-ok_or c =
+pub loop-i-preserved : goal.loop-i-preserved
+loop-i-preserved c =
+    let within : c.loop-i.i < length c.loop-i.bytes = omega (arith, c.loop-i.invariant.long, c.loop-i-test.true, c.as_chunks.ensures.front_len, c.if-line-gt-LINE_LIMIT.false) in
+    let more = told_more c.args.line.now c.as_chunks.result.0.now c.loop-i.i c.loop-i-test.true (take c.loop-i.i c.loop-i.bytes)
+    c.loop-i.seen c.digit_value-high.result c.digit_value-low.result _ c.loop-i.invariant.told
+    record { digit = c.digit_value-high.ensures.digit; other = c.digit_value-high.ensures.other }
+    record { digit = c.digit_value-low.ensures.digit; other = c.digit_value-low.ensures.other }
+    (λ high low. omega arith) in
+    record { long = length-set c.loop-i.bytes c.loop-i.i _ ∙ c.loop-i.invariant.long; told = rw (take_more_set c.loop-i.bytes c.loop-i.i _ within) more }
+
+pub returns-then-seen-ge16 : goal.returns-then-seen-ge16
+returns-then-seen-ge16 c =
     let some : 0 < length c.args.line.now = search rules in
-    let is : byte_of (get_or (get_or c.as_chunks.result.0.now c.loop-high.high-index []) 0 0) (get_or (get_or c.as_chunks.result.0.now c.loop-high.high-index []) 1 0) ≡ None = grind (arith, common_steps) in
     let none : None ≡ decoded c.args.line.now =
-    sym (decoded_is _ some c.if-line-gt-LINE_LIMIT.false ∙ c.loop-high.invariant.so_far ∙ spelled_stops _ _ c.loop-high-test.true _ is) in
-    let told = err_from_is_err_and c.from_residual.result c.from_residual.ensures.1 in
-    rw told.1 (decodes_to_none _ none _)
+    sym (decoded_is _ some c.if-line-gt-LINE_LIMIT.false ∙ c.loop-i.invariant.told.other c.if-seen-ge16.true) in
+    decodes_to_none _ none _
 
-pub push-requires : goal.push-requires
-push-requires c =
-    let few : length c.loop-high.bytes.items < 512 = omega (arith, c.loop-high.invariant.long, c.loop-high-test.true, c.as_chunks.ensures.front_len) in
-    (omega arith, few)
-
-pub loop-high-preserved : goal.loop-high-preserved
-loop-high-preserved c =
-    let is : byte_of (get_or (get_or c.as_chunks.result.0.now c.loop-high.high-index []) 0 0) (get_or (get_or c.as_chunks.result.0.now c.loop-high.high-index []) 1 0) ≡ Some c.in_ok-ok_or.field-0 = grind (arith, common_steps) in
-    record {
-      long = omega (arith, c.push.ensures.len, c.loop-high.invariant.long);
-      so_far = rw c.push.ensures.items (c.loop-high.invariant.so_far ∙ spelled_more _ _ c.loop-high-test.true _ _ is);
-    }
+pub invariant_of-result : goal.invariant_of-result
+invariant_of-result c = (omega (arith, c.if-line-gt-LINE_LIMIT.false), c.loop-i.invariant.long)
 
 pub returns : goal.returns
 returns c =
     let some : 0 < length c.args.line.now = search rules in
-    let is : Some c.loop-high.bytes.items ≡ decoded c.args.line.now =
-    sym (decoded_is _ some c.if-line-gt-LINE_LIMIT.false ∙ c.loop-high.invariant.so_far ∙ spelled_all _ _ _ c.loop-high-test.false) in
+    let all : c.loop-i.i ≡ length c.args.line.now / 2 = omega (arith, c.loop-i-test.false, c.as_chunks.ensures.front_len) in
+    let is : Some (take (length c.args.line.now / 2) c.loop-i.bytes) ≡ decoded c.args.line.now =
+    sym (decoded_is _ some c.if-line-gt-LINE_LIMIT.false ∙ c.loop-i.invariant.told.digits c.if-seen-ge16.false
+    ∙ spelled_all _ _ _ c.loop-i-test.false ∙ ap (λ n. Some (take n c.loop-i.bytes)) all) in
     record { value = is; spelled = spells_some _ _ is }
