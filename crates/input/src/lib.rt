@@ -5,6 +5,7 @@ ghost use Rattle.std.specs.Prelude.{◌≡◌, false, [], IfOk};
 ghost use Rattle.record.specs.Lines.{Short};
 ghost use Rattle.input.specs.Chunks.{filled, parted};
 
+use memchr::memchr;
 use record::LineBuffer;
 use std::io;
 use std::io::BufRead;
@@ -16,17 +17,21 @@ pub mod words;
 // Takes a line's characters from the front of a chunk of input. Answers how many bytes were used, and whether
 // they end with the newline that ends the line. Both are wanted either way: an `Option` of the count would leave it
 // to the caller to count what ends no line.
+#[tactic(auto, using(crate::proofs::Parts::ended_parted, crate::proofs::Parts::ended_filled, crate::proofs::Parts::open_parted, crate::proofs::Parts::open_filled))]
 pub fn fill(line: &mut LineBuffer, chunk: &[u8]) -> (usize, bool)
     ensures value { result ≡ parted 0 chunk.now }
     ensures after { line.new ≡ filled line.old chunk.now }
 {
-    for (i, &character) in chunk.iter().enumerate() {
-        if character == b'\n' {
-            return (i + 1, true);
+    match memchr(b'\n', chunk) {
+        Some(end) => {
+            line.extend(&chunk[..end]);
+            (end + 1, true)
         }
-        line.push(character);
+        None => {
+            line.extend(chunk);
+            (chunk.len(), false)
+        }
     }
-    (chunk.len(), false)
 }
 
 // Reads the next line, without its newline; `false` where the input has ended. A last line needs no newline.

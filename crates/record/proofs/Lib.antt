@@ -8,3 +8,4 @@ pub mod Inverses
 pub mod Formats
 pub mod Writings
 pub mod Meanings
+pub mod Lengthening

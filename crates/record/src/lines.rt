@@ -1,5 +1,6 @@
 // A buffer for lines that come in character by character.
 ghost use Rattle.std.specs.Prelude.{◌≡◌, ℕ, List, [], ◌∷◌, ◌++◌};
+ghost use Rattle.std.specs.List.{fold};
 ghost use Rattle.std.specs.Option.{option_map};
 ghost use Rattle.record.specs.Lines.{Short, held_of, pushed, whole_line};
 
@@ -29,6 +30,19 @@ impl LineBuffer {
     {
         if !self.chars.is_full() {
             self.chars.push(character);
+        }
+    }
+
+    // More characters of the line, as if each was pushed. Those that have no place are left out: the line is then too long with or
+    // without them.
+    #[tactic(auto, using(crate::proofs::Lengthening::extended))]
+    pub fn extend(&mut self, characters: &[u8])
+        ensures { self.new ≡ fold pushed self.old characters.now }
+    {
+        let room = self.chars.remaining_capacity();
+        let held = &characters[..characters.len().min(room)];
+        if self.chars.try_extend_from_slice(held).is_err() {
+            unreachable!();
         }
     }
 
