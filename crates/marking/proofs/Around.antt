@@ -18,7 +18,7 @@ use Rattle.marking.specs.Nearby.{signal_in, dead, decision, branch_of}
 use Rattle.marking.proofs.Reaches.{headed}
 use Rattle.marking.proofs.OneGap.{whole_false, within_false, bar_signal}
 
-begins_before : (x : Element) (s : ℕ) → Begins x → gap_of x s ≡ s
+pub begins_before : (x : Element) (s : ℕ) → Begins x → gap_of x s ≡ s
 begins_before (Activity i) s b = refl
 begins_before AndSplit s b = refl
 begins_before Bar s b = elim b [ ]
@@ -79,7 +79,7 @@ module _ (fs : List Fact) where
   head_open (LoopEnd i) n g e = refl
 
   -- of a block with a decision, and of one with none
-  head_by : (x : Element) (n i : ℕ) (g : Signal) → decision x ≡ Some i → headed fs x n g ≡ head_of (is_false g) (decided (fact_of fs i)) n
+  pub head_by : (x : Element) (n i : ℕ) (g : Signal) → decision x ≡ Some i → headed fs x n g ≡ head_of (is_false g) (decided (fact_of fs i)) n
   head_by (Activity j) n i g e = absurd cc
   head_by AndSplit n i g e = absurd cc
   head_by Bar n i g e = absurd cc
@@ -89,7 +89,7 @@ module _ (fs : List Fact) where
   head_by LoopStart n i g e = absurd cc
   head_by (LoopEnd j) n i g e = absurd cc
 
-  head_plain : (x : Element) (n : ℕ) (g : Signal) → decision x ≡ option.None → headed fs x n g ≡ g
+  pub head_plain : (x : Element) (n : ℕ) (g : Signal) → decision x ≡ option.None → headed fs x n g ≡ g
   head_plain (Activity i) n g e = refl
   head_plain AndSplit n g e = refl
   head_plain Bar n g e = refl
@@ -134,7 +134,7 @@ module _ (xs : List Element) (fs : List Fact) (p : ℕ) (h : Position) (told : P
     end_of : (e : ℕ) × Ends xs s e
     end_of = subst (Closed xs) inside told.2
 
-    opens_block : Begins opener
+    pub opens_block : Begins opener
     opens_block = subst Begins (sym (within_opener AndSplit around_some)) around_some.begins
 
     pub start_before : s < p
@@ -165,17 +165,9 @@ module _ (xs : List Element) (fs : List Fact) (p : ℕ) (h : Position) (told : P
     pub dead_open : branch_of fs (decision opener) ≡ option.None → dead xs fs p ≡ dead xs fs s
     dead_open e = around ∙ head_open fs opener h.branch (signal_in xs fs s) e ∙ start_alive
 
-    behind_bar : here ≡ Bar → signal_in xs fs (p + 1) ≡ headed fs opener h.branch (signal_in xs fs s)
+    pub behind_bar : here ≡ Bar → signal_in xs fs (p + 1) ≡ headed fs opener h.branch (signal_in xs fs s)
     behind_bar is =
         bar_signal fs xs (subst (λ k. Within xs s k h.branch) (ap (λ x. gap_of x p) is) around_some) end_of.1 told.0 is (told.1.later is)
-
-    pub bar_decided : (i : ℕ) → here ≡ Bar → decision opener ≡ Some i → signal_in xs fs (p + 1) ≡ head_of (dead xs fs s) (decided (fact_of fs i)) h.branch
-    bar_decided i is e =
-        behind_bar is ∙ head_by fs opener h.branch i (signal_in xs fs s) e
-        ∙ ap (λ k. head_of k (decided (fact_of fs i)) h.branch) start_alive
-
-    pub bar_plain : here ≡ Bar → decision opener ≡ option.None → signal_in xs fs (p + 1) ≡ signal_in xs fs s
-    bar_plain is e = behind_bar is ∙ head_plain fs opener h.branch (signal_in xs fs s) e
 
     pub ends_here : Closes here → Ends xs s p
     ends_here closes =

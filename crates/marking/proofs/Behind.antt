@@ -1,5 +1,5 @@
 -- The signal of a gap, by what stands before it. Assumes nothing.
-use Rattle.std.proofs.Common.{◌≡◌, ℕ, ◌+◌, ◌<◌, ◌⊎◌, true, cond, List, [], ◌∷◌, length, get_or, Some, Option, sym, refl, ap, ◌∙◌, subst, inl, inr, arith}
+use Rattle.std.proofs.Common.{◌≡◌, ℕ, ◌+◌, ◌<◌, ◌≤◌, ◌⊎◌, Bool, true, cond, List, [], ◌∷◌, length, get_or, Some, Option, sym, refl, ap, ◌∙◌, subst, inl, inr, arith}
 use Rattle.std.proofs.lemmas.List.{get_or_past}
 use Rattle.std.specs.declared.option.Option.TheVariants as option
 use Rattle.std.specs.List.{slice_range}
@@ -9,45 +9,43 @@ use Rattle.model.specs.declared.Fact.{Fact}
 use Rattle.model.specs.declared.Signal.{Signal}
 use Rattle.model.specs.declared.Signal.TheVariants.{True, False, None}
 use Rattle.model.specs.Trees.{Seq, flatten}
-use Rattle.model.specs.Signals.{fact_of, is_done, is_false, decided, head_of, after_node}
+use Rattle.model.specs.Signals.{fact_of, is_done, is_false, decided, head_of}
 use Rattle.layout.specs.declared.Position.{Position}
-use Rattle.layout.specs.Gaps.{Closes, gap_of, Positioned, Ends}
+use Rattle.layout.specs.Gaps.{Begins, Closes, gap_of, Positioned, Ends}
 use Rattle.marking.specs.declared.nearby.Before.{Before}
-use Rattle.marking.specs.declared.nearby.Before.TheVariants.{Node, Decision, Start, End, Astray}
-use Rattle.marking.specs.declared.nearby.Before.TheVariants as turning
-use Rattle.marking.specs.declared.signals.Opened.{Opened}
+use Rattle.marking.specs.declared.nearby.Before.TheVariants.{Node, Head, Block, Astray}
 use Rattle.marking.specs.Machine.{chosen, Gap, step, signals, start}
-use Rattle.marking.specs.Nearby.{signal_in, dead, before, bar_of, end_of, decision, alone}
+use Rattle.marking.specs.Nearby.{signal_in, dead, before, turned, ended, decision, alone}
 use Rattle.marking.proofs.TreeSignals.{choice_first, head_at}
+use Rattle.marking.proofs.Reaches.{headed}
 use Rattle.marking.proofs.OneGap.{at_next, block_signal, alone_false}
-use Rattle.marking.proofs.Around.{no_bar, no_end, start_before, start_alive, bar_decided, bar_plain, ends_here}
+use Rattle.marking.proofs.Around.{begins_before, head_by, head_plain, no_bar, no_end, start_before, start_alive, opens_block, behind_bar, ends_here}
 
--- what it says of the element and the block
-abbrev Says : Element → Option ℕ → Before → Type 0
-Says x b (Node i) = (x ≡ Activity i) ⊎ (x ≡ LoopEnd i)
-Says x b (Decision i) = x ≡ XorSplit i
-Says x b Start = (x ≡ AndSplit) ⊎ (x ≡ LoopStart)
-Says x b (turning.Bar s) = (x ≡ Bar) × (b ≡ Some s)
-Says x b (End s) = Closes x × (b ≡ Some s)
-Says x b Astray = ((x ≡ Bar) ⊎ Closes x) × (b ≡ option.None)
+-- what it says of the element and its position
+abbrev Says : Element → ℕ → Position → Before → Type 0
+Says x p h (Node i) = (x ≡ Activity i) ⊎ (x ≡ LoopEnd i)
+Says x p h (Head s n) = (Begins x × (s ≡ p) × (n ≡ 0)) ⊎ ((x ≡ Bar) × (h.block ≡ Some s) × (n ≡ h.branch))
+Says x p h (Block s) = Closes x × (h.block ≡ Some s)
+Says x p h Astray = ((x ≡ Bar) ⊎ Closes x) × (h.block ≡ option.None)
 
-says_bar : (b : Option ℕ) → Says Bar b (bar_of b)
-says_bar option.None = (inl refl, refl)
-says_bar (option.Some s) = (refl, refl)
+module _ (p : ℕ) (h : Position) where
+  says_turned : (b : Option ℕ) → h.block ≡ b → Says Bar p h (turned b h.branch)
+  says_turned option.None e = (inl refl, e)
+  says_turned (option.Some s) e = inr (refl, e, refl)
 
-says_end : (x : Element) (b : Option ℕ) → Closes x → Says x b (end_of b)
-says_end x option.None c = (inr c, refl)
-says_end x (option.Some s) c = (c, refl)
+  says_ended : (x : Element) (b : Option ℕ) → Closes x → h.block ≡ b → Says x p h (ended b)
+  says_ended x option.None c e = (inr c, e)
+  says_ended x (option.Some s) c e = (c, e)
 
-says : (x : Element) (b : Option ℕ) → Says x b (before x b)
-says (Activity i) b = inl refl
-says AndSplit b = inl refl
-says Bar b = says_bar b
-says AndJoin b = says_end AndJoin b tt
-says (XorSplit i) b = refl
-says XorJoin b = says_end XorJoin b tt
-says LoopStart b = inr refl
-says (LoopEnd i) b = inr refl
+  says : (x : Element) → Says x p h (before x p h)
+  says (Activity i) = inl refl
+  says AndSplit = inl (tt, refl, refl)
+  says Bar = says_turned h.block refl
+  says AndJoin = says_ended AndJoin h.block tt refl
+  says (XorSplit i) = inl (tt, refl, refl)
+  says XorJoin = says_ended XorJoin h.block tt refl
+  says LoopStart = inl (tt, refl, refl)
+  says (LoopEnd i) = inr refl
 
 -- what makes the same of none and of true, and false of false alone
 steady : (f : Signal → Signal) → ((g : Signal) → is_false (f g) ≡ is_false g) → f None ≡ f True → (g : Signal) → f g ≡ cond (is_false g) False (f None)
@@ -60,76 +58,95 @@ steady f keeps same False = only (f False) (keeps False)
     only False e = refl
     only None e = absurd cc
 
+abbrev node_by : Fact → Bool → Signal
+node_by f k = cond k False (cond (is_done f) True None)
+
+module _ (fs : List Fact) where
+  -- behind an element that begins a block, its first branch does
+  first_head : (x : Element) → Begins x → (o : Gap) → (step fs x o).signal ≡ headed fs x 0 o.signal
+  first_head (Activity i) b o = elim b [ ]
+  first_head AndSplit b o = refl
+  first_head Bar b o = elim b [ ]
+  first_head AndJoin b o = elim b [ ]
+  first_head (XorSplit i) b o = ap (chosen (is_false o.signal)) (choice_first (fact_of fs i)) ∙ head_at (is_false o.signal) (decided (fact_of fs i)) 0 None
+  first_head XorJoin b o = elim b [ ]
+  first_head LoopStart b o = refl
+  first_head (LoopEnd i) b o = elim b [ ]
+
 module _ (xs : List Element) (fs : List Fact) (p : ℕ) (h : Position) (told : Positioned xs p (Some h)) where
   abbrev here : Element
   here = get_or xs p AndSplit
 
-  said : (k : Before) → k ≡ before here h.block → Says here h.block k
-  said k e = subst (Says here h.block) (sym e) (says here h.block)
+  said : (k : Before) → k ≡ before here p h → Says here p h k
+  said k e = subst (Says here p h) (sym e) (says p h here)
 
-  -- an element on, where the signal that stands before it is that of its gap
-  on : (x : Element) (f : Signal → Signal) → here ≡ x → ((o : Signal) (s : List Opened) → (step fs x (record { signal = o; blocks = s })).signal ≡ f o) → signal_in xs fs (p + 1) ≡ f (signal_in xs fs p)
-  on x f is steps =
-      let r = at_next fs xs p told.0 in
-      r.2 ∙ ap (λ y. (step fs y r.0).signal) is ∙ steps r.0.signal r.0.blocks ∙ ap f r.1
-
-  alive : (x : Element) → here ≡ x → gap_of x p ≡ p → is_false (signal_in xs fs p) ≡ dead xs fs p
-  alive x is e = ap (λ k. is_false (signal_in xs fs k)) (sym (ap (λ y. gap_of y p) is ∙ e))
-
-  pub node_signal : (i : ℕ) → Node i ≡ before here h.block
+  pub node_signal : (i : ℕ) → Node i ≡ before here p h
       → signal_in xs fs (p + 1) ≡ cond (dead xs fs p) False (cond (is_done (fact_of fs i)) True None)
   node_signal i e = go (said (Node i) e)
     where
-      go : (here ≡ Activity i) ⊎ (here ≡ LoopEnd i) → signal_in xs fs (p + 1) ≡ cond (dead xs fs p) False (cond (is_done (fact_of fs i)) True None)
-      go (inl is) =
-          on (Activity i) (λ g. after_node g (fact_of fs i)) is (λ o s. refl)
-          ∙ ap (λ k. cond k False (cond (is_done (fact_of fs i)) True None)) (alive (Activity i) is refl)
-      go (inr is) =
-          on (LoopEnd i) (λ g. after_node g (fact_of fs i)) is (λ o s. refl)
-          ∙ ap (λ k. cond k False (cond (is_done (fact_of fs i)) True None)) (alive (LoopEnd i) is refl)
+      behind : (x : Element) → here ≡ x → gap_of x p ≡ p → ((o : Gap) → (step fs x o).signal ≡ node_by (fact_of fs i) (is_false o.signal)) → signal_in xs fs (p + 1) ≡ node_by (fact_of fs i) (dead xs fs p)
+      behind x is plain steps =
+          let r = at_next fs xs p told.0 in
+          r.2 ∙ ap (λ y. (step fs y r.0).signal) is ∙ steps r.0 ∙ ap (λ g. node_by (fact_of fs i) (is_false g)) r.1
+          ∙ ap (λ k. node_by (fact_of fs i) (is_false (signal_in xs fs k))) (sym (ap (λ y. gap_of y p) is ∙ plain))
 
-  pub decision_signal : (i : ℕ) → Decision i ≡ before here h.block → signal_in xs fs (p + 1) ≡ head_of (dead xs fs p) (decided (fact_of fs i)) 0
-  decision_signal i e =
-      let is = said (Decision i) e in
-      let d = decided (fact_of fs i) in
-      on (XorSplit i) (λ g. head_of (is_false g) d 0) is (λ o s. ap (chosen (is_false o)) (choice_first (fact_of fs i)) ∙ head_at (is_false o) d 0 None)
-      ∙ ap (λ k. head_of k d 0) (alive (XorSplit i) is refl)
+      go : (here ≡ Activity i) ⊎ (here ≡ LoopEnd i) → signal_in xs fs (p + 1) ≡ node_by (fact_of fs i) (dead xs fs p)
+      go (inl is) = behind (Activity i) is refl (λ o. refl)
+      go (inr is) = behind (LoopEnd i) is refl (λ o. refl)
 
-  pub start_signal : Start ≡ before here h.block → signal_in xs fs (p + 1) ≡ signal_in xs fs p
-  start_signal e = go (said Start e)
-    where
-      go : (here ≡ AndSplit) ⊎ (here ≡ LoopStart) → signal_in xs fs (p + 1) ≡ signal_in xs fs p
-      go (inl is) = on AndSplit (λ g. g) is (λ o s. refl)
-      go (inr is) = on LoopStart (λ g. g) is (λ o s. refl)
+  module _ (s n : ℕ) (e : Head s n ≡ before here p h) where
+    pub head_before : s ≤ p
+    head_before = go (said (Head s n) e)
+      where
+        go : (Begins here × (s ≡ p) × (n ≡ 0)) ⊎ ((here ≡ Bar) × (h.block ≡ Some s) × (n ≡ h.branch)) → s ≤ p
+        go (inl w) = omega (arith, w.1)
+        go (inr w) = let less = start_before xs fs p h told s w.1 in omega arith
 
-  module _ (s : ℕ) (e : turning.Bar s ≡ before here h.block) where
-    pub bar_before : s < p
-    bar_before = start_before xs fs p h told s (said (turning.Bar s) e).1
+    head_begins : Begins (get_or xs s AndSplit)
+    head_begins = go (said (Head s n) e)
+      where
+        go : (Begins here × (s ≡ p) × (n ≡ 0)) ⊎ ((here ≡ Bar) × (h.block ≡ Some s) × (n ≡ h.branch)) → Begins (get_or xs s AndSplit)
+        go (inl w) = subst (λ k. Begins (get_or xs k AndSplit)) (sym w.1) w.0
+        go (inr w) = opens_block xs fs p h told s w.1
 
-    pub head_signal : (i : ℕ) → decision (get_or xs s AndSplit) ≡ Some i → signal_in xs fs (p + 1) ≡ head_of (dead xs fs s) (decided (fact_of fs i)) h.branch
-    head_signal i is = let w = said (turning.Bar s) e in bar_decided xs fs p h told s w.1 i w.0 is
+    head_signal : signal_in xs fs (p + 1) ≡ headed fs (get_or xs s AndSplit) n (signal_in xs fs s)
+    head_signal = go (said (Head s n) e)
+      where
+        go : (Begins here × (s ≡ p) × (n ≡ 0)) ⊎ ((here ≡ Bar) × (h.block ≡ Some s) × (n ≡ h.branch))
+            → signal_in xs fs (p + 1) ≡ headed fs (get_or xs s AndSplit) n (signal_in xs fs s)
+        go (inl w) =
+            let r = at_next fs xs p told.0 in
+            r.2 ∙ first_head fs here w.0 r.0 ∙ ap (headed fs here 0) r.1
+            ∙ ap (λ k. headed fs (get_or xs k AndSplit) 0 (signal_in xs fs k)) (sym w.1)
+            ∙ ap (λ m. headed fs (get_or xs s AndSplit) m (signal_in xs fs s)) (sym w.2)
+        go (inr w) = behind_bar xs fs p h told s w.1 w.0 ∙ ap (λ m. headed fs (get_or xs s AndSplit) m (signal_in xs fs s)) (sym w.2)
 
-    pub branch_signal : decision (get_or xs s AndSplit) ≡ option.None → signal_in xs fs (p + 1) ≡ signal_in xs fs s
-    branch_signal is = let w = said (turning.Bar s) e in bar_plain xs fs p h told s w.1 w.0 is
+    pub decided_head : (i : ℕ) → decision (get_or xs s AndSplit) ≡ Some i → signal_in xs fs (p + 1) ≡ head_of (dead xs fs s) (decided (fact_of fs i)) n
+    decided_head i is =
+        head_signal ∙ head_by fs (get_or xs s AndSplit) n i (signal_in xs fs s) is
+        ∙ ap (λ k. head_of (is_false (signal_in xs fs k)) (decided (fact_of fs i)) n) (sym (begins_before (get_or xs s AndSplit) s head_begins))
 
-  module _ (s : ℕ) (e : End s ≡ before here h.block) where
-    pub end_before : s < p
-    end_before = start_before xs fs p h told s (said (End s) e).1
+    pub plain_head : decision (get_or xs s AndSplit) ≡ option.None → signal_in xs fs (p + 1) ≡ signal_in xs fs s
+    plain_head is = head_signal ∙ head_plain fs (get_or xs s AndSplit) n (signal_in xs fs s) is
+
+  module _ (s : ℕ) (e : Block s ≡ before here p h) where
+    pub block_before : s < p
+    block_before = start_before xs fs p h told s (said (Block s) e).1
 
     closed : Ends xs s p
-    closed = let w = said (End s) e in ends_here xs fs p h told s w.1 w.0
+    closed = let w = said (Block s) e in ends_here xs fs p h told s w.1 w.0
 
-    pub behind_signal : signal_in xs fs (p + 1) ≡ alone fs (slice_range xs s (p + 1)) (signal_in xs fs s)
-    behind_signal = block_signal fs xs closed
+    pub behind_block : signal_in xs fs (p + 1) ≡ alone fs (slice_range xs s (p + 1)) (signal_in xs fs s)
+    behind_block = block_signal fs xs closed
 
-    pub same_signal : alone fs (slice_range xs s (p + 1)) None ≡ alone fs (slice_range xs s (p + 1)) True
+    pub steady_block : alone fs (slice_range xs s (p + 1)) None ≡ alone fs (slice_range xs s (p + 1)) True
         → signal_in xs fs (p + 1) ≡ cond (dead xs fs s) False (alone fs (slice_range xs s (p + 1)) None)
-    same_signal same =
+    steady_block same =
         let f = alone fs (slice_range xs s (p + 1)) in
-        behind_signal ∙ steady f (alone_false fs xs closed) same (signal_in xs fs s)
-        ∙ ap (λ k. cond k False (f None)) (start_alive xs fs p h told s (said (End s) e).1)
+        behind_block ∙ steady f (alone_false fs xs closed) same (signal_in xs fs s)
+        ∙ ap (λ k. cond k False (f None)) (start_alive xs fs p h told s (said (Block s) e).1)
 
-  pub none_astray : (t : Seq) → xs ≡ flatten t → Astray ≡ before here h.block → ⊥
+  pub none_astray : (t : Seq) → xs ≡ flatten t → Astray ≡ before here p h → ⊥
   none_astray t is e = let w = said Astray e in go w.0 w.1
     where
       go : (here ≡ Bar) ⊎ Closes here → h.block ≡ option.None → ⊥

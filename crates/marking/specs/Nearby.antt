@@ -3,7 +3,7 @@
 --   dead xs fs p        whether the signal where the element at p stands is false: behind a bar, before any other
 --   decision x          the decision of the block that x begins
 --   branch_of fs d      the branch that this decision decided
---   before x b          what stands before a gap, where x does, within the block b
+--   before x p h        what stands before the gap behind element x at p, which stands at position h
 --   alone fs ys g       the signal behind a whole block, from that before it
 use Rattle.std.specs.Prelude.{ℕ, Bool, List, [], Option, slice_index_or}
 use Rattle.std.specs.declared.option.Option.TheVariants as option
@@ -13,10 +13,10 @@ use Rattle.model.specs.declared.Fact.{Fact}
 use Rattle.model.specs.declared.Signal.{Signal}
 use Rattle.model.specs.declared.Signal.TheVariants.{None}
 use Rattle.model.specs.Signals.{fact_of, is_false, decided}
+use Rattle.layout.specs.declared.Position.{Position}
 use Rattle.layout.specs.Gaps.{gap_of}
 use Rattle.marking.specs.declared.nearby.Before.{Before}
-use Rattle.marking.specs.declared.nearby.Before.TheVariants.{Node, Decision, Start, End, Astray}
-use Rattle.marking.specs.declared.nearby.Before.TheVariants as turning
+use Rattle.marking.specs.declared.nearby.Before.TheVariants.{Node, Head, Block, Astray}
 use Rattle.marking.specs.Machine.{gap, signals, start, reach}
 
 abbrev pub signal_in : List Element → List Fact → ℕ → Signal
@@ -39,23 +39,24 @@ abbrev pub branch_of : List Fact → Option ℕ → Option ℕ
 branch_of fs option.None = option.None
 branch_of fs (option.Some i) = decided (fact_of fs i)
 
-abbrev pub bar_of : Option ℕ → Before
-bar_of option.None = Astray
-bar_of (option.Some s) = turning.Bar s
+-- A bar turns, and an end ends, the block around it.
+abbrev pub turned : Option ℕ → ℕ → Before
+turned option.None n = Astray
+turned (option.Some s) n = Head s n
 
-abbrev pub end_of : Option ℕ → Before
-end_of option.None = Astray
-end_of (option.Some s) = End s
+abbrev pub ended : Option ℕ → Before
+ended option.None = Astray
+ended (option.Some s) = Block s
 
-abbrev pub before : Element → Option ℕ → Before
-before (Activity i) b = Node i
-before AndSplit b = Start
-before Bar b = bar_of b
-before AndJoin b = end_of b
-before (XorSplit i) b = Decision i
-before XorJoin b = end_of b
-before LoopStart b = Start
-before (LoopEnd i) b = Node i
+abbrev pub before : Element → ℕ → Position → Before
+before (Activity i) p h = Node i
+before AndSplit p h = Head p 0
+before Bar p h = turned h.block h.branch
+before AndJoin p h = ended h.block
+before (XorSplit i) p h = Head p 0
+before XorJoin p h = ended h.block
+before LoopStart p h = Head p 0
+before (LoopEnd i) p h = Node i
 
 abbrev pub alone : List Fact → List Element → Signal → Signal
 alone fs ys g = (reach fs (gap g []) ys).signal

@@ -2,6 +2,6 @@
 #![tactic(auto)]
 
 pub mod marking;
-mod nearby;
+pub mod nearby;
 mod signals;
 pub mod states;

@@ -10,6 +10,7 @@ use crate::marking::decided;
 use crate::signals::{Opened, is_done, moves};
 use bounded::get_or;
 use facts::Facts;
+use layout::Position;
 use model::{Element, Fact, Signal};
 use schema::schema::Schema;
 use stack::Stack;
@@ -88,50 +89,57 @@ fn behind(facts: &Facts, block: &[Element], before: Signal) -> Signal
     signal
 }
 
-// What stands before a gap; of a bar and of an end, with the place where its block begins.
+// What stands before a gap.
 #[derive(Clone, Copy)]
 enum Before {
     Node(u8),
-    Decision(u8),
-    // the start of a loop or of an AND block, which a signal passes as it is
-    Start,
-    Bar(u8),
-    End(u8),
-    // a bar or an end outside every block; no schema has one
+    // the head of a branch, in the block that begins at `split`
+    Head { split: usize, branch: u8 },
+    // a whole AND or XOR block, which begins at `split`
+    Block { split: usize },
+    // a bar or a join outside every block; no schema has one
     Astray,
 }
 
 impl Before {
-    fn of(element: Element, block: Option<u8>) -> Before
-        ensures { result ≡ before element block }
+    // What stands before the gap behind this element.
+    fn of(element: Element, place: usize, position: Position) -> Before
+        ensures { result ≡ before element place position }
     {
-        match (element, block) {
+        match (element, position.block) {
             (Element::Activity(id) | Element::LoopEnd(id), _) => Before::Node(id),
-            (Element::XorSplit(id), _) => Before::Decision(id),
-            (Element::AndSplit | Element::LoopStart, _) => Before::Start,
-            (Element::Bar, Some(start)) => Before::Bar(start),
-            (Element::AndJoin | Element::XorJoin, Some(start)) => Before::End(start),
+            (Element::AndSplit | Element::XorSplit(_) | Element::LoopStart, _) => Before::Head {
+                split: place,
+                branch: 0,
+            },
+            (Element::Bar, Some(start)) => Before::Head {
+                split: usize::from(start),
+                branch: position.branch,
+            },
+            (Element::AndJoin | Element::XorJoin, Some(start)) => Before::Block {
+                split: usize::from(start),
+            },
             (Element::Bar | Element::AndJoin | Element::XorJoin, None) => Before::Astray,
         }
     }
 }
 
-// The signal behind a node at this place.
+// The signal behind the node at this place.
 fn behind_node(schema: &Schema, facts: &Facts, place: usize, id: u8) -> Signal
     requires { place < length (parts schema.now).row }
     ensures { result ≡ cond (dead (parts schema.now).row facts.now place) False (cond (is_done (fact_of facts.now id)) True None) }
 {
-    let done = is_done(facts.of(id));
-    unless_dead(
-        schema,
-        facts,
-        place,
-        if done { Signal::True } else { Signal::None },
-    )
+    let signal = if is_done(facts.of(id)) {
+        Signal::True
+    } else {
+        Signal::None
+    };
+    unless_dead(schema, facts, place, signal)
 }
 
-// The signal of a gap; past the row's end there is none.
-pub(crate) fn signal_at(schema: &Schema, facts: &Facts, gap: usize) -> Signal
+// The signal of a gap; past the row's end there is none. It is found by going back from the gap only as far as it hangs
+// on what stands there.
+pub fn signal_at(schema: &Schema, facts: &Facts, gap: usize) -> Signal
     ensures { result ≡ signal_in (parts schema.now).row facts.now gap }
 {
     if gap == 0 {
@@ -142,19 +150,13 @@ pub(crate) fn signal_at(schema: &Schema, facts: &Facts, gap: usize) -> Signal
         return Signal::None;
     };
     let row = schema.row();
-    match Before::of(get_or(row, place, Element::AndSplit), position.block) {
+    match Before::of(get_or(row, place, Element::AndSplit), place, position) {
         Before::Node(id) => behind_node(schema, facts, place, id),
-        Before::Decision(id) => head(schema, facts, place, id, 0),
-        Before::Start => signal_at(schema, facts, place),
-        Before::Bar(start) => {
-            let split = usize::from(start);
-            match decision(schema, split) {
-                Some(id) => head(schema, facts, split, id, position.branch),
-                None => signal_at(schema, facts, split),
-            }
-        }
-        Before::End(start) => {
-            let split = usize::from(start);
+        Before::Head { split, branch } => match decision(schema, split) {
+            Some(id) => head(schema, facts, split, id, branch),
+            None => signal_at(schema, facts, split),
+        },
+        Before::Block { split } => {
             let block = &row[split..gap];
             let if_none = behind(facts, block, Signal::None);
             if if_none == behind(facts, block, Signal::True) {
