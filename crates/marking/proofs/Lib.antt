@@ -8,3 +8,4 @@ pub mod Reaches
 pub mod OneGap
 pub mod Around
 pub mod Behind
+pub mod NodeStates

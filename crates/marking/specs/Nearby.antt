@@ -4,15 +4,17 @@
 --   decision x          the decision of the block that x begins
 --   branch_of fs d      the branch that this decision decided
 --   before x p h        what stands before the gap behind element x at p, which stands at position h
+--   telling g f         the own signal g of a node with the fact f, as far as its state hangs on it
 --   alone fs ys g       the signal behind a whole block, from that before it
 use Rattle.std.specs.Prelude.{ℕ, Bool, List, [], Option, slice_index_or}
 use Rattle.std.specs.declared.option.Option.TheVariants as option
 use Rattle.model.specs.declared.Element.{Element}
 use Rattle.model.specs.declared.Element.TheVariants.{Activity, AndSplit, Bar, AndJoin, XorSplit, XorJoin, LoopStart, LoopEnd}
 use Rattle.model.specs.declared.Fact.{Fact}
+use Rattle.model.specs.declared.Fact.TheVariants.{Nothing, Begun, Ended, Decided, Left}
 use Rattle.model.specs.declared.Signal.{Signal}
 use Rattle.model.specs.declared.Signal.TheVariants.{None}
-use Rattle.model.specs.Signals.{fact_of, is_false, decided}
+use Rattle.model.specs.Signals.{fact_of, is_false, unless_false, decided}
 use Rattle.layout.specs.declared.Position.{Position}
 use Rattle.layout.specs.Gaps.{gap_of}
 use Rattle.marking.specs.declared.nearby.Before.{Before}
@@ -60,3 +62,10 @@ before (LoopEnd i) p h = Node i
 
 abbrev pub alone : List Fact → List Element → Signal → Signal
 alone fs ys g = (reach fs (gap g []) ys).signal
+
+abbrev pub telling : Signal → Fact → Signal
+telling g Nothing = g
+telling g Begun = unless_false g None
+telling g Ended = unless_false g None
+telling g (Decided b) = unless_false g None
+telling g Left = unless_false g None

@@ -1,6 +1,7 @@
 // What a case is doing, from its facts: the signals of a row's gaps and the states of its nodes.
 #![tactic(auto)]
 
+mod dead;
 pub mod marking;
 pub mod nearby;
 mod signals;

@@ -3,10 +3,11 @@ ghost use Rattle.std.specs.Prelude.{◌≡◌, ◌<◌, ◌≤◌, cond, length,
 ghost use Rattle.model.specs.declared.Element.TheVariants.{AndSplit};
 ghost use Rattle.model.specs.declared.Signal.TheVariants.{True, False, None};
 ghost use Rattle.model.specs.Signals.{fact_of, is_done, decided, head_of};
+ghost use Rattle.layout.specs.Gaps.{gap_of};
 ghost use Rattle.schema.specs.Schemas.{parts};
-ghost use Rattle.marking.specs.Nearby.{signal_in, dead, before, decision, branch_of, alone};
+ghost use Rattle.marking.specs.Nearby.{signal_in, dead, before, telling, alone};
 
-use crate::marking::decided;
+use crate::dead::{decision, is_dead};
 use crate::signals::{Opened, is_done, moves};
 use bounded::get_or;
 use facts::Facts;
@@ -14,42 +15,6 @@ use layout::Position;
 use model::{Element, Fact, Signal};
 use schema::schema::Schema;
 use stack::Stack;
-
-// The decision of the block that begins at this place, if that is an XOR block.
-fn decision(schema: &Schema, split: usize) -> Option<u8>
-    ensures { result ≡ decision (slice_index_or (parts schema.now).row split AndSplit) }
-{
-    match get_or(schema.row(), split, Element::AndSplit) {
-        Element::XorSplit(id) => Some(id),
-        _ => None,
-    }
-}
-
-// The branch that was decided for it.
-fn decided_at(schema: &Schema, facts: &Facts, split: usize) -> Option<u8>
-    ensures { result ≡ branch_of facts.now (decision (slice_index_or (parts schema.now).row split AndSplit)) }
-{
-    decided(facts.of(decision(schema, split)?))
-}
-
-// Whether the signal is false where the element at this place stands. Of the decisions around it that were made, the
-// innermost tells: it made its own branch true, whatever is false further out.
-fn is_dead(schema: &Schema, facts: &Facts, place: usize) -> bool
-    requires { place < length (parts schema.now).row }
-    ensures { result ≡ dead (parts schema.now).row facts.now place }
-{
-    let Some(position) = schema.position(place) else {
-        return false;
-    };
-    let Some(block) = position.block else {
-        return false;
-    };
-    let split = usize::from(block);
-    match decided_at(schema, facts, split) {
-        Some(decided) => decided != position.branch,
-        None => is_dead(schema, facts, split),
-    }
-}
 
 // This signal, but false where the place is dead.
 fn unless_dead(schema: &Schema, facts: &Facts, place: usize, signal: Signal) -> Signal
@@ -165,5 +130,18 @@ pub fn signal_at(schema: &Schema, facts: &Facts, gap: usize) -> Signal
             behind(facts, block, signal_at(schema, facts, split))
         }
         Before::Astray => Signal::None,
+    }
+}
+
+// The own signal of a node with this fact, as far as its state hangs on it: where something happened to the node, only
+// whether it is false.
+pub(crate) fn telling_signal(schema: &Schema, facts: &Facts, place: usize, fact: Fact) -> Signal
+    requires inside { place < length (parts schema.now).row }
+    requires before { gap_of (slice_index_or (parts schema.now).row place AndSplit) place ≡ place }
+    ensures { result ≡ telling (signal_in (parts schema.now).row facts.now place) fact }
+{
+    match fact {
+        Fact::Nothing => signal_at(schema, facts, place),
+        _ => unless_dead(schema, facts, place, Signal::None),
     }
 }

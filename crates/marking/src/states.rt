@@ -23,7 +23,7 @@ pub struct Signals<'a> {
 }
 
 // The state of a node, from its own signal, its fact, and whether every sync source is completed or skipped.
-fn state_of(signal: Signal, fact: Fact, free: bool) -> State
+pub(crate) fn state_of(signal: Signal, fact: Fact, free: bool) -> State
     ensures { result ≡ state_of signal fact free }
 {
     match (signal, fact) {

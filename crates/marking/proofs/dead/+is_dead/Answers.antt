@@ -1,6 +1,6 @@
 use Rattle.std.proofs.Common.{Some, sym, ap, ◌∙◌, arith}
 use Rattle.marking.proofs.Around.{dead_outside, start_before, dead_decided, dead_open}
-use Rattle.marking.proofs.nearby.+is_dead.Goals as goal
+use Rattle.marking.proofs.dead.+is_dead.Goals as goal
 
 pub returns-in_default-block : goal.returns-in_default-block
 returns-in_default-block t c = sym (dead_outside _ _ _ _ c.in-Some.ensures.tree c.in_default-block.is)
