@@ -1,7 +1,5 @@
 -- The state of a node, from what its own place tells. Assumes nothing.
-use Rattle.std.proofs.Common.{◌≡◌, ℕ, Bool, true, false, ◌&&◌, ◌||◌, List, get_or, sym, refl, ap, ◌∙◌}
-use denote.Enum.Bare.{sameb}
-use Rattle.model.specs.contracts.Signal.{the_type}
+use Rattle.std.proofs.Common.{◌≡◌, ℕ, Bool, true, false, ◌||◌, List, get_or, sym, refl, ap, ◌∙◌}
 use Rattle.std.specs.declared.option.Option.TheVariants as option
 use Rattle.model.specs.declared.Element.{Element}
 use Rattle.model.specs.declared.Element.TheVariants.{Activity, AndSplit, Bar, AndJoin, XorSplit, XorJoin, LoopStart, LoopEnd}
@@ -11,7 +9,7 @@ use Rattle.model.specs.declared.Fact.TheVariants.{Nothing, Begun, Ended, Decided
 use Rattle.model.specs.declared.Signal.{Signal}
 use Rattle.model.specs.declared.Signal.TheVariants.{True, False, None}
 use Rattle.model.specs.Rows.{Bears, Unique, Low}
-use Rattle.model.specs.Signals.{fact_of, is_true, is_false, is_done}
+use Rattle.model.specs.Signals.{fact_of, is_false, is_done}
 use Rattle.model.specs.States.{state_of}
 use Rattle.layout.specs.Gaps.{gap_of}
 use Rattle.layout.specs.Nodes.{Finds}
@@ -30,24 +28,17 @@ bears_before XorJoin id p b = refl
 bears_before LoopStart id p b = refl
 bears_before (LoopEnd i) id p b = refl
 
-pub is_true_told : (g : Signal) → sameb the_type g True ≡ is_true g
-is_true_told True = refl
-is_true_told False = refl
-is_true_told None = refl
-
--- the state hangs on no more of the signal, and on the edges only where that is true
-pub state_told : (g : Signal) (f : Fact) (r : Bool) → state_of (telling g f) f (is_true (telling g f) && r) ≡ state_of g f r
-state_told True Nothing r = refl
+-- the state hangs on no more of the signal
+pub state_told : (g : Signal) (f : Fact) (r : Bool) → state_of (telling g f) f r ≡ state_of g f r
+state_told g Nothing r = refl
 state_told True Begun r = refl
 state_told True Ended r = refl
 state_told True (Decided b) r = refl
 state_told True Left r = refl
-state_told False Nothing r = refl
 state_told False Begun r = refl
 state_told False Ended r = refl
 state_told False (Decided b) r = refl
 state_told False Left r = refl
-state_told None Nothing r = refl
 state_told None Begun r = refl
 state_told None Ended r = refl
 state_told None (Decided b) r = refl

@@ -4,12 +4,11 @@ ghost use Rattle.model.specs.Signals.{decided};
 ghost use Rattle.schema.specs.Schemas.{parts};
 ghost use Rattle.marking.specs.States.{state_in};
 
-use crate::dead::is_free;
 use crate::nearby::telling_signal;
 use crate::states::{Signals, state_of};
 use bounded::get_or;
 use facts::Facts;
-use model::{Fact, Signal, State};
+use model::{Fact, State};
 use schema::schema::Schema;
 use std::array;
 
@@ -80,9 +79,6 @@ pub fn node_state(schema: &Schema, facts: &Facts, id: u8) -> Option<State>
     ensures { result ≡ state_in (parts schema.now).row (parts schema.now).edges facts.now id }
 {
     let place = schema.place(id)?;
-    let fact = facts.of(id);
-    let signal = telling_signal(schema, facts, place, fact);
-    // the edges are asked only where they tell
-    let free = signal == Signal::True && is_free(schema, facts, id);
-    Some(state_of(signal, fact, free))
+    let signal = telling_signal(schema, facts, place, facts.of(id));
+    Some(state_of(schema, facts, id, signal))
 }

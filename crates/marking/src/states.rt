@@ -1,10 +1,12 @@
 // The states of a schema's nodes, from the signals of its gaps.
 ghost use Rattle.std.specs.Prelude.{◌≡◌, ◌+◌, length, take, slice_index_or};
+ghost use Rattle.model.specs.Signals.{fact_of};
 ghost use Rattle.model.specs.States.{state_of};
 ghost use Rattle.schema.specs.Schemas.{parts};
 ghost use Rattle.marking.specs.Machine.{signals, start};
-ghost use Rattle.marking.specs.States.{own_in, settled, settled_in, free_in, state_in, finished_in};
+ghost use Rattle.marking.specs.States.{own_in, free_in, state_in, finished_in};
 
+use crate::dead::is_free;
 use crate::signals::{is_done, mark};
 use bounded::get_or;
 use facts::Facts;
@@ -22,23 +24,18 @@ pub struct Signals<'a> {
     ghost told: { take (length (parts schema.now).row + 1) gaps ≡ signals facts.now start (parts schema.now).row },
 }
 
-// The state of a node, from its own signal, its fact, and whether every sync source is completed or skipped.
-pub(crate) fn state_of(signal: Signal, fact: Fact, free: bool) -> State
-    ensures { result ≡ state_of signal fact free }
+// The state of a node, from its own signal. The edges are looked at only where they tell.
+pub(crate) fn state_of(schema: &Schema, facts: &Facts, id: u8, signal: Signal) -> State
+    ensures { result ≡ state_of signal (fact_of facts.now id) (free_in (parts schema.now).row (parts schema.now).edges facts.now id) }
 {
+    let fact = facts.of(id);
     match (signal, fact) {
         (Signal::False, _) => State::Skipped,
         _ if is_done(fact) => State::Completed,
         (_, Fact::Begun) => State::Running,
-        (Signal::True, Fact::Nothing) if free => State::Activated,
+        (Signal::True, Fact::Nothing) if is_free(schema, facts, id) => State::Activated,
         _ => State::NotActivated,
     }
-}
-
-fn settled(signal: Option<Signal>, fact: Fact) -> bool
-    ensures { result ≡ settled signal fact }
-{
-    signal.is_some_and(|own| own == Signal::False || is_done(fact))
 }
 
 impl<'a> Signals<'a> {
@@ -62,29 +59,12 @@ impl<'a> Signals<'a> {
         Some(self.gaps[place])
     }
 
-    // Whether a node is completed or skipped.
-    fn is_settled(&self, id: u8) -> bool
-        ensures { result ≡ settled_in (parts self.now.schema.now).row self.now.facts.now id }
-    {
-        settled(self.own(id), self.facts.of(id))
-    }
-
-    // Whether every sync source of a node is completed or skipped.
-    fn is_free(&self, id: u8) -> bool
-        ensures { result ≡ free_in (parts self.now.schema.now).row (parts self.now.schema.now).edges self.now.facts.now id }
-    {
-        self.schema
-            .edges()
-            .iter()
-            .all(|edge| edge.target != id || self.is_settled(edge.source))
-    }
-
     // The state of a node, if the schema has it.
     pub fn state(&self, id: u8) -> Option<State>
         ensures { result ≡ state_in (parts self.now.schema.now).row (parts self.now.schema.now).edges self.now.facts.now id }
     {
         let signal = self.own(id)?;
-        Some(state_of(signal, self.facts.of(id), self.is_free(id)))
+        Some(state_of(self.schema, self.facts, id, signal))
     }
 
     // The signal of a gap; past the row's end there is none.
