@@ -6,3 +6,5 @@ pub mod marking;
 pub mod nearby;
 mod signals;
 pub mod states;
+#[cfg(test)]
+mod tests;
