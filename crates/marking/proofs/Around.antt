@@ -1,5 +1,5 @@
 -- What the position of an element tells of the signals around it. Assumes nothing.
-use Rattle.std.proofs.Common.{◌≡◌, ℕ, ◌+◌, ◌<◌, ◌⊎◌, Bool, true, false, cond, not, eqb, List, ◌∷◌, length, get_or, Some, sym, refl, ap, ◌∙◌, subst, inl, inr, arith, length-append}
+use Rattle.std.proofs.Common.{◌≡◌, ℕ, ◌+◌, ◌<◌, ◌⊎◌, Bool, true, false, cond, not, eqb, List, ◌∷◌, length, get_or, Some, Option, sym, refl, ap, ◌∙◌, subst, inl, inr, arith, length-append}
 use Rattle.std.proofs.lemmas.List.{get_or_default}
 use Rattle.std.proofs.lemmas.Bool.{cases_eq}
 use Rattle.std.specs.declared.option.Option.TheVariants as option
@@ -14,7 +14,7 @@ use Rattle.layout.specs.declared.Position.{Position}
 use Rattle.layout.specs.Gaps.{Begins, Closes, Inside, Whole, Within, Gap, free, block, gap_of, Closed, Positioned, Ends}
 use Rattle.layout.proofs.Facts.{within_opener, closes_end, whole_closes}
 use Rattle.layout.proofs.Shapes.{spell_longer_branches}
-use Rattle.marking.specs.Nearby.{signal_in, dead, decision, branch_of}
+use Rattle.marking.specs.Nearby.{signal_in, dead, decision, branch_of, fell_against}
 use Rattle.marking.proofs.Reaches.{headed}
 use Rattle.marking.proofs.OneGap.{whole_false, within_false, bar_signal}
 
@@ -159,11 +159,23 @@ module _ (xs : List Element) (fs : List Fact) (p : ℕ) (h : Position) (told : P
     around : dead xs fs p ≡ is_false (headed fs opener h.branch (signal_in xs fs s))
     around = within_false fs xs around_some end_of.1
 
-    pub dead_decided : (d : ℕ) → branch_of fs (decision opener) ≡ Some d → dead xs fs p ≡ not (eqb d h.branch)
-    dead_decided d e = around ∙ head_decided fs opener h.branch d (signal_in xs fs s) e
+    pub dead_told : (against : Bool) → fell_against (branch_of fs (decision opener)) h.branch ≡ Some against → dead xs fs p ≡ against
+    dead_told against e = go (branch_of fs (decision opener)) refl
+      where
+        go : (o : Option ℕ) → branch_of fs (decision opener) ≡ o → dead xs fs p ≡ against
+        go option.None is = let f : fell_against option.None h.branch ≡ Some against = ap (λ o. fell_against o h.branch) (sym is) ∙ e in absurd cc
+        go (option.Some d) is =
+            let f : fell_against (Some d) h.branch ≡ Some against = ap (λ o. fell_against o h.branch) (sym is) ∙ e in
+            around ∙ head_decided fs opener h.branch d (signal_in xs fs s) is ∙ cc
 
-    pub dead_open : branch_of fs (decision opener) ≡ option.None → dead xs fs p ≡ dead xs fs s
-    dead_open e = around ∙ head_open fs opener h.branch (signal_in xs fs s) e ∙ start_alive
+    pub dead_open : fell_against (branch_of fs (decision opener)) h.branch ≡ option.None → dead xs fs p ≡ dead xs fs s
+    dead_open e = go (branch_of fs (decision opener)) refl
+      where
+        go : (o : Option ℕ) → branch_of fs (decision opener) ≡ o → dead xs fs p ≡ dead xs fs s
+        go option.None is = around ∙ head_open fs opener h.branch (signal_in xs fs s) is ∙ start_alive
+        go (option.Some d) is =
+            let f : fell_against (Some d) h.branch ≡ option.None = ap (λ o. fell_against o h.branch) (sym is) ∙ e in
+            absurd cc
 
     pub behind_bar : here ≡ Bar → signal_in xs fs (p + 1) ≡ headed fs opener h.branch (signal_in xs fs s)
     behind_bar is =

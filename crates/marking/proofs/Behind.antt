@@ -48,10 +48,11 @@ module _ (p : ℕ) (h : Position) where
   says (LoopEnd i) = inr refl
 
 -- what makes the same of none and of true, and false of false alone
-steady : (f : Signal → Signal) → ((g : Signal) → is_false (f g) ≡ is_false g) → f None ≡ f True → (g : Signal) → f g ≡ cond (is_false g) False (f None)
-steady f keeps same True = sym same
-steady f keeps same None = refl
-steady f keeps same False = only (f False) (keeps False)
+steady : (f : Signal → Signal) → ((g : Signal) → is_false (f g) ≡ is_false g) → (v : Signal) → f None ≡ v → f True ≡ v
+    → (g : Signal) → f g ≡ cond (is_false g) False v
+steady f keeps v none all True = all
+steady f keeps v none all None = none
+steady f keeps v none all False = only (f False) (keeps False)
   where
     only : (g : Signal) → is_false g ≡ true → g ≡ False
     only True e = absurd cc
@@ -139,12 +140,11 @@ module _ (xs : List Element) (fs : List Fact) (p : ℕ) (h : Position) (told : P
     pub behind_block : signal_in xs fs (p + 1) ≡ alone fs (slice_range xs s (p + 1)) (signal_in xs fs s)
     behind_block = block_signal fs xs closed
 
-    pub steady_block : alone fs (slice_range xs s (p + 1)) None ≡ alone fs (slice_range xs s (p + 1)) True
-        → signal_in xs fs (p + 1) ≡ cond (dead xs fs s) False (alone fs (slice_range xs s (p + 1)) None)
-    steady_block same =
-        let f = alone fs (slice_range xs s (p + 1)) in
-        behind_block ∙ steady f (alone_false fs xs closed) same (signal_in xs fs s)
-        ∙ ap (λ k. cond k False (f None)) (start_alive xs fs p h told s (said (Block s) e).1)
+    pub steady_block : (v : Signal) → alone fs (slice_range xs s (p + 1)) None ≡ v → alone fs (slice_range xs s (p + 1)) True ≡ v
+        → signal_in xs fs (p + 1) ≡ cond (dead xs fs s) False v
+    steady_block v none all =
+        behind_block ∙ steady (alone fs (slice_range xs s (p + 1))) (alone_false fs xs closed) v none all (signal_in xs fs s)
+        ∙ ap (λ k. cond k False v) (start_alive xs fs p h told s (said (Block s) e).1)
 
   pub none_astray : (t : Seq) → xs ≡ flatten t → Astray ≡ before here p h → ⊥
   none_astray t is e = let w = said Astray e in go w.0 w.1

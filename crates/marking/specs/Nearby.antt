@@ -3,10 +3,11 @@
 --   dead xs fs p        whether the signal where the element at p stands is false: behind a bar, before any other
 --   decision x          the decision of the block that x begins
 --   branch_of fs d      the branch that this decision decided
+--   fell_against o n    whether it fell against branch n, if it decided
 --   before x p h        what stands before the gap behind element x at p, which stands at position h
 --   telling g f         the own signal g of a node with the fact f, as far as its state hangs on it
 --   alone fs ys g       the signal behind a whole block, from that before it
-use Rattle.std.specs.Prelude.{ℕ, Bool, List, [], Option, slice_index_or}
+use Rattle.std.specs.Prelude.{ℕ, Bool, not, List, [], Option, ◌==◌, slice_index_or}
 use Rattle.std.specs.declared.option.Option.TheVariants as option
 use Rattle.model.specs.declared.Element.{Element}
 use Rattle.model.specs.declared.Element.TheVariants.{Activity, AndSplit, Bar, AndJoin, XorSplit, XorJoin, LoopStart, LoopEnd}
@@ -40,6 +41,10 @@ decision (LoopEnd i) = option.None
 abbrev pub branch_of : List Fact → Option ℕ → Option ℕ
 branch_of fs option.None = option.None
 branch_of fs (option.Some i) = decided (fact_of fs i)
+
+abbrev pub fell_against : Option ℕ → ℕ → Option Bool
+fell_against option.None n = option.None
+fell_against (option.Some d) n = option.Some (not (d == n))
 
 -- A bar turns, and an end ends, the block around it.
 abbrev pub turned : Option ℕ → ℕ → Before

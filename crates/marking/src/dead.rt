@@ -2,7 +2,7 @@
 ghost use Rattle.std.specs.Prelude.{◌≡◌, ◌<◌, length, slice_index_or};
 ghost use Rattle.model.specs.declared.Element.TheVariants.{AndSplit};
 ghost use Rattle.schema.specs.Schemas.{parts};
-ghost use Rattle.marking.specs.Nearby.{dead, decision, branch_of};
+ghost use Rattle.marking.specs.Nearby.{dead, decision, branch_of, fell_against};
 ghost use Rattle.marking.specs.States.{settled_in, free_in};
 
 use crate::marking::decided;
@@ -22,11 +22,12 @@ pub(crate) fn decision(schema: &Schema, split: usize) -> Option<u8>
     }
 }
 
-// The branch that was decided for it.
-fn decided_at(schema: &Schema, facts: &Facts, split: usize) -> Option<u8>
-    ensures { result ≡ branch_of facts.now (decision (slice_index_or (parts schema.now).row split AndSplit)) }
+// Whether the decision of the block that begins at this place fell against the branch, if it was made.
+fn fell_against(schema: &Schema, facts: &Facts, split: usize, branch: u8) -> Option<bool>
+    ensures { result ≡ fell_against (branch_of facts.now (decision (slice_index_or (parts schema.now).row split AndSplit))) branch }
 {
-    decided(facts.of(decision(schema, split)?))
+    let decided = decided(facts.of(decision(schema, split)?))?;
+    Some(decided != branch)
 }
 
 // Whether the signal is false where the element at this place stands. Of the decisions around it that were made, the
@@ -42,13 +43,14 @@ pub(crate) fn is_dead(schema: &Schema, facts: &Facts, place: usize) -> bool
         return false;
     };
     let split = usize::from(block);
-    match decided_at(schema, facts, split) {
-        Some(decided) => decided != position.branch,
+    match fell_against(schema, facts, split, position.branch) {
+        Some(against) => against,
         None => is_dead(schema, facts, split),
     }
 }
 
 // Whether a node is completed or skipped.
+#[tactic(auto, using(crate::proofs::NodeStates::settled_none, crate::proofs::NodeStates::settled_done, crate::proofs::NodeStates::settled_dead, schema::proofs::Checked::checked_fine))]
 fn is_settled(schema: &Schema, facts: &Facts, id: u8) -> bool
     ensures { result ≡ settled_in (parts schema.now).row facts.now id }
 {

@@ -1,5 +1,5 @@
 // The signal of one gap, from what stands around it, and not from a pass over the whole row.
-ghost use Rattle.std.specs.Prelude.{◌≡◌, ◌<◌, ◌≤◌, cond, length, slice_index_or};
+ghost use Rattle.std.specs.Prelude.{◌≡◌, ◌<◌, ◌≤◌, cond, length, slice_index_or, IfSome};
 ghost use Rattle.model.specs.declared.Element.TheVariants.{AndSplit};
 ghost use Rattle.model.specs.declared.Signal.TheVariants.{True, False, None};
 ghost use Rattle.model.specs.Signals.{fact_of, is_done, decided, head_of};
@@ -52,6 +52,19 @@ fn behind(facts: &Facts, block: &[Element], before: Signal) -> Signal
         signal = blocks.follow(next);
     }
     signal
+}
+
+// The signal behind a block, if it is the same where none and where true is before it.
+fn sure_signal(facts: &Facts, block: &[Element]) -> Option<Signal>
+    requires { length block.now ≤ 128 }
+    ensures { IfSome result (λ signal. (alone facts.now block.now None ≡ signal) × (alone facts.now block.now True ≡ signal)) }
+{
+    let signal = behind(facts, block, Signal::None);
+    if signal == behind(facts, block, Signal::True) {
+        Some(signal)
+    } else {
+        None
+    }
 }
 
 // What stands before a gap.
@@ -123,11 +136,10 @@ pub fn signal_at(schema: &Schema, facts: &Facts, gap: usize) -> Signal
         },
         Before::Block { split } => {
             let block = &row[split..gap];
-            let if_none = behind(facts, block, Signal::None);
-            if if_none == behind(facts, block, Signal::True) {
-                return unless_dead(schema, facts, split, if_none);
+            match sure_signal(facts, block) {
+                Some(signal) => unless_dead(schema, facts, split, signal),
+                None => behind(facts, block, signal_at(schema, facts, split)),
             }
-            behind(facts, block, signal_at(schema, facts, split))
         }
         Before::Astray => Signal::None,
     }

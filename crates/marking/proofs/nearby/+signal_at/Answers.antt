@@ -1,11 +1,9 @@
-use Rattle.std.proofs.Common.{◌≡◌, ◌+◌, ◌-◌, cond, get_or, sym, ap, ◌∙◌, arith, rules}
-use denote.Enum.Bare.{same_true}
+use Rattle.std.proofs.Common.{◌≡◌, ◌+◌, ◌-◌, get_or, sym, ap, ◌∙◌, arith}
 use Rattle.std.specs.List.{slice_range}
-use Rattle.model.specs.contracts.Signal.{the_type}
 use Rattle.model.specs.declared.Element.TheVariants.{AndSplit}
-use Rattle.model.specs.declared.Signal.TheVariants.{True, False, None}
+use Rattle.model.specs.declared.Signal.TheVariants.{True, None}
 use Rattle.marking.specs.declared.nearby.Before.TheVariants.{Node, Head, Block, Astray}
-use Rattle.marking.specs.Nearby.{signal_in, dead, before, alone}
+use Rattle.marking.specs.Nearby.{signal_in, before, alone}
 use Rattle.schema.proofs.Checked.{checked_nested}
 use Rattle.marking.proofs.OneGap.{at_start}
 use Rattle.marking.proofs.Behind.{node_signal, head_before, decided_head, plain_head, block_before, behind_block, steady_block, none_astray, past_signal}
@@ -66,40 +64,39 @@ slice_bounds-block-start t c =
     let less = block_before row fs _ _ c.in-Some.ensures.tree _ e in
     omega arith
 
-pub signal_at-requires-in-Block : goal.signal_at-requires-in-Block
-signal_at-requires-in-Block t c =
+pub signal_at-requires-in-None-sure_signal : goal.signal_at-requires-in-None-sure_signal
+signal_at-requires-in-None-sure_signal t c =
     let row = c.args.schema.now.row in
     let fs = c.args.facts.now in
     let e : Block c.in-Block.split ≡ before (get_or row (c.args.gap - 1) AndSplit) (c.args.gap - 1) c.in-Some.position = cc in
     let less = block_before row fs _ _ c.in-Some.ensures.tree _ e in
     (omega arith, tt)
 
-pub returns-then-eq : goal.returns-then-eq
-returns-then-eq t c =
+pub returns-in-Some-sure_signal : goal.returns-in-Some-sure_signal
+returns-in-Some-sure_signal t c =
     let row = c.args.schema.now.row in
     let fs = c.args.facts.now in
     let one : c.args.gap - 1 + 1 ≡ c.args.gap = omega arith in
     let e : Block c.in-Block.split ≡ before (get_or row (c.args.gap - 1) AndSplit) (c.args.gap - 1) c.in-Some.position = cc in
     let s = c.in-Block.split in
     let block = ap (λ xs. slice_range xs s c.args.gap) c.row-row.ensures.value ∙ ap (slice_range row s) (sym one) in
-    let if_none = c.behind-if_none.ensures ∙ ap (λ ys. alone fs ys None) block in
-    let if_true = c.behind.ensures ∙ ap (λ ys. alone fs ys True) block in
-    let same = same_true the_type (search rules) _ _ (sym c.if-eq.ensures) in
+    let sure = c.in-Some-sure_signal.ensures in
+    let none = ap (λ ys. alone fs ys None) (sym block) ∙ sure.0 in
+    let all = ap (λ ys. alone fs ys True) (sym block) ∙ sure.1 in
     c.unless_dead.ensures
-    ∙ ap (λ v. cond (dead row fs s) False v) if_none
-    ∙ sym (steady_block row fs _ _ c.in-Some.ensures.tree s e (sym if_none ∙ same ∙ if_true))
+    ∙ sym (steady_block row fs _ _ c.in-Some.ensures.tree s e c.in-Some-sure_signal.signal none all)
     ∙ ap (signal_in row fs) one
 
-pub returns-else-eq : goal.returns-else-eq
-returns-else-eq t c =
+pub returns-in-None-sure_signal : goal.returns-in-None-sure_signal
+returns-in-None-sure_signal t c =
     let row = c.args.schema.now.row in
     let fs = c.args.facts.now in
     let one : c.args.gap - 1 + 1 ≡ c.args.gap = omega arith in
     let e : Block c.in-Block.split ≡ before (get_or row (c.args.gap - 1) AndSplit) (c.args.gap - 1) c.in-Some.position = cc in
     let s = c.in-Block.split in
     let block = ap (λ xs. slice_range xs s c.args.gap) c.row-row.ensures.value ∙ ap (slice_range row s) (sym one) in
-    c.behind-in-Block.ensures
-    ∙ ap (λ v. alone fs (slice_range c.row-row.result.now s c.args.gap) v) c.signal_at-in-Block.ensures
+    c.behind.ensures
+    ∙ ap (λ v. alone fs (slice_range c.row-row.result.now s c.args.gap) v) c.signal_at-in-None-sure_signal.ensures
     ∙ ap (λ ys. alone fs ys (signal_in row fs s)) block
     ∙ sym (behind_block row fs _ _ c.in-Some.ensures.tree s e)
     ∙ ap (signal_in row fs) one
