@@ -32,6 +32,7 @@ fn fell_against(schema: &Schema, facts: &Facts, split: usize, branch: u8) -> Opt
 
 // Whether the signal is false where the element at this place stands. Of the decisions around it that were made, the
 // innermost tells: it made its own branch true, whatever is false further out.
+#[tactic(auto, using(crate::proofs::Around::dead_outside, crate::proofs::Around::start_before, crate::proofs::Around::dead_told, crate::proofs::Around::dead_open))]
 pub(crate) fn is_dead(schema: &Schema, facts: &Facts, place: usize) -> bool
     requires { place < length (parts schema.now).row }
     ensures { result ≡ dead (parts schema.now).row facts.now place }

@@ -75,6 +75,7 @@ pub(crate) fn decided(fact: Fact) -> Option<u8>
 }
 
 // The state of one node under these facts, if the schema has it.
+#[tactic(auto, using(crate::proofs::NodeStates::state_none, crate::proofs::NodeStates::state_at, crate::proofs::NodeStates::state_told, schema::proofs::Checked::checked_fine))]
 pub fn node_state(schema: &Schema, facts: &Facts, id: u8) -> Option<State>
     ensures { result ≡ state_in (parts schema.now).row (parts schema.now).edges facts.now id }
 {
