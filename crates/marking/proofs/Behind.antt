@@ -74,7 +74,7 @@ module _ (fs : List Fact) where
   first_head LoopStart b o = refl
   first_head (LoopEnd i) b o = elim b [ ]
 
-module _ (xs : List Element) (fs : List Fact) (p : ℕ) (h : Position) (told : Positioned xs p (Some h)) where
+module _ (xs : List Element) (fs : List Fact) (p gap : ℕ) (one : gap ≡ p + 1) (h : Position) (told : Positioned xs p (Some h)) where
   abbrev here : Element
   here = get_or xs p AndSplit
 
@@ -82,8 +82,8 @@ module _ (xs : List Element) (fs : List Fact) (p : ℕ) (h : Position) (told : P
   said k e = subst (Says here p h) (sym e) (says p h here)
 
   pub node_signal : (i : ℕ) → Node i ≡ before here p h
-      → signal_in xs fs (p + 1) ≡ cond (dead xs fs p) False (cond (is_done (fact_of fs i)) True None)
-  node_signal i e = go (said (Node i) e)
+      → signal_in xs fs gap ≡ cond (dead xs fs p) False (cond (is_done (fact_of fs i)) True None)
+  node_signal i e = ap (signal_in xs fs) one ∙ go (said (Node i) e)
     where
       behind : (x : Element) → here ≡ x → gap_of x p ≡ p → ((o : Gap) → (step fs x o).signal ≡ node_by (fact_of fs i) (is_false o.signal)) → signal_in xs fs (p + 1) ≡ node_by (fact_of fs i) (dead xs fs p)
       behind x is plain steps =
@@ -122,13 +122,13 @@ module _ (xs : List Element) (fs : List Fact) (p : ℕ) (h : Position) (told : P
             ∙ ap (λ m. headed fs (get_or xs s AndSplit) m (signal_in xs fs s)) (sym w.2)
         go (inr w) = behind_bar xs fs p h told s w.1 w.0 ∙ ap (λ m. headed fs (get_or xs s AndSplit) m (signal_in xs fs s)) (sym w.2)
 
-    pub decided_head : (i : ℕ) → decision (get_or xs s AndSplit) ≡ Some i → signal_in xs fs (p + 1) ≡ head_of (dead xs fs s) (decided (fact_of fs i)) n
+    pub decided_head : (i : ℕ) → decision (get_or xs s AndSplit) ≡ Some i → signal_in xs fs gap ≡ head_of (dead xs fs s) (decided (fact_of fs i)) n
     decided_head i is =
-        head_signal ∙ head_by fs (get_or xs s AndSplit) n i (signal_in xs fs s) is
+        ap (signal_in xs fs) one ∙ head_signal ∙ head_by fs (get_or xs s AndSplit) n i (signal_in xs fs s) is
         ∙ ap (λ k. head_of (is_false (signal_in xs fs k)) (decided (fact_of fs i)) n) (sym (begins_before (get_or xs s AndSplit) s head_begins))
 
-    pub plain_head : decision (get_or xs s AndSplit) ≡ option.None → signal_in xs fs (p + 1) ≡ signal_in xs fs s
-    plain_head is = head_signal ∙ head_plain fs (get_or xs s AndSplit) n (signal_in xs fs s) is
+    pub plain_head : decision (get_or xs s AndSplit) ≡ option.None → signal_in xs fs gap ≡ signal_in xs fs s
+    plain_head is = ap (signal_in xs fs) one ∙ head_signal ∙ head_plain fs (get_or xs s AndSplit) n (signal_in xs fs s) is
 
   module _ (s : ℕ) (e : Block s ≡ before here p h) where
     pub block_before : s < p
@@ -137,13 +137,17 @@ module _ (xs : List Element) (fs : List Fact) (p : ℕ) (h : Position) (told : P
     closed : Ends xs s p
     closed = let w = said (Block s) e in ends_here xs fs p h told s w.1 w.0
 
-    pub behind_block : signal_in xs fs (p + 1) ≡ alone fs (slice_range xs s (p + 1)) (signal_in xs fs s)
-    behind_block = block_signal fs xs closed
+    pub behind_block : signal_in xs fs gap ≡ alone fs (slice_range xs s gap) (signal_in xs fs s)
+    behind_block =
+        ap (signal_in xs fs) one ∙ block_signal fs xs closed ∙ ap (λ k. alone fs (slice_range xs s k) (signal_in xs fs s)) (sym one)
 
-    pub steady_block : (v : Signal) → alone fs (slice_range xs s (p + 1)) None ≡ v → alone fs (slice_range xs s (p + 1)) True ≡ v
-        → signal_in xs fs (p + 1) ≡ cond (dead xs fs s) False v
+    keeps : (g : Signal) → is_false (alone fs (slice_range xs s gap) g) ≡ is_false g
+    keeps g = ap (λ k. is_false (alone fs (slice_range xs s k) g)) one ∙ alone_false fs xs closed g
+
+    pub steady_block : (v : Signal) → alone fs (slice_range xs s gap) None ≡ v → alone fs (slice_range xs s gap) True ≡ v
+        → signal_in xs fs gap ≡ cond (dead xs fs s) False v
     steady_block v none all =
-        behind_block ∙ steady (alone fs (slice_range xs s (p + 1))) (alone_false fs xs closed) v none all (signal_in xs fs s)
+        behind_block ∙ steady (alone fs (slice_range xs s gap)) keeps v none all (signal_in xs fs s)
         ∙ ap (λ k. cond k False v) (start_alive xs fs p h told s (said (Block s) e).1)
 
   pub none_astray : (t : Seq) → xs ≡ flatten t → Astray ≡ before here p h → ⊥

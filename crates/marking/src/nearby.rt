@@ -117,6 +117,7 @@ fn behind_node(schema: &Schema, facts: &Facts, place: usize, id: u8) -> Signal
 
 // The signal of a gap; past the row's end there is none. It is found by going back from the gap only as far as it hangs
 // on what stands there.
+#[tactic(auto, using(crate::proofs::OneGap::at_start, crate::proofs::Behind::node_signal, crate::proofs::Behind::head_before, crate::proofs::Behind::decided_head, crate::proofs::Behind::plain_head, crate::proofs::Behind::block_before, crate::proofs::Behind::behind_block, crate::proofs::Behind::steady_block, crate::proofs::Behind::none_astray, crate::proofs::Behind::past_signal, schema::proofs::Checked::checked_nested))]
 pub fn signal_at(schema: &Schema, facts: &Facts, gap: usize) -> Signal
     ensures { result ≡ signal_in (parts schema.now).row facts.now gap }
 {
