@@ -1,5 +1,5 @@
 -- What the position of an element tells of the signals around it. Assumes nothing.
-use Rattle.std.proofs.Common.{◌≡◌, ℕ, ◌+◌, ◌<◌, ◌⊎◌, Bool, true, false, cond, not, eqb, List, ◌∷◌, length, get_or, Some, Option, sym, refl, ap, ◌∙◌, subst, inl, inr, arith, length-append}
+use Rattle.std.proofs.Common.{◌≡◌, ℕ, ◌+◌, ◌<◌, ◌⊎◌, Bool, true, false, cond, not, eqb, List, ◌∷◌, length, get_or, Some, Option, sym, refl, ap, ◌∙◌, subst, inl, inr, ⊎_elim, arith, length-append}
 use Rattle.std.proofs.lemmas.List.{get_or_default}
 use Rattle.std.proofs.lemmas.Bool.{cases_eq}
 use Rattle.std.specs.declared.option.Option.TheVariants as option
@@ -18,26 +18,6 @@ use Rattle.marking.specs.Nearby.{signal_in, dead, decision, branch_of, fell_agai
 use Rattle.marking.proofs.Reaches.{headed}
 use Rattle.marking.proofs.OneGap.{whole_false, within_false, bar_signal}
 
-pub begins_before : (x : Element) (s : ℕ) → Begins x → gap_of x s ≡ s
-begins_before (Activity i) s b = refl
-begins_before AndSplit s b = refl
-begins_before Bar s b = elim b [ ]
-begins_before AndJoin s b = refl
-begins_before (XorSplit i) s b = refl
-begins_before XorJoin s b = refl
-begins_before LoopStart s b = refl
-begins_before (LoopEnd i) s b = refl
-
-closes_before : (x : Element) (p : ℕ) → Closes x → gap_of x p ≡ p
-closes_before (Activity i) p c = refl
-closes_before AndSplit p c = refl
-closes_before Bar p c = elim c [ ]
-closes_before AndJoin p c = refl
-closes_before (XorSplit i) p c = refl
-closes_before XorJoin p c = refl
-closes_before LoopStart p c = refl
-closes_before (LoopEnd i) p c = refl
-
 one_gap : (x : Element) (p : ℕ) → (gap_of x p ≡ p) ⊎ ((x ≡ Bar) × (gap_of x p ≡ p + 1))
 one_gap (Activity i) p = inl refl
 one_gap AndSplit p = inl refl
@@ -47,6 +27,16 @@ one_gap (XorSplit i) p = inl refl
 one_gap XorJoin p = inl refl
 one_gap LoopStart p = inl refl
 one_gap (LoopEnd i) p = inl refl
+
+-- what no bar is stands at the gap before it
+pub stands_before : (P : Element → Type 0) → (P Bar → ⊥) → (x : Element) (p : ℕ) → P x → gap_of x p ≡ p
+stands_before P never x p h = ⊎_elim (λ e. e) (λ w. absurd (never (subst P w.0 h))) (one_gap x p)
+
+pub begins_before : (x : Element) (s : ℕ) → Begins x → gap_of x s ≡ s
+begins_before = stands_before Begins (λ b. b)
+
+closes_before : (x : Element) (p : ℕ) → Closes x → gap_of x p ≡ p
+closes_before = stands_before Closes (λ c. c)
 
 false_or_not : (k b : Bool) → is_false (cond b True False) ≡ not b
 false_or_not k true = refl

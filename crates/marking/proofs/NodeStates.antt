@@ -2,7 +2,7 @@
 use Rattle.std.proofs.Common.{◌≡◌, ℕ, Bool, true, false, ◌||◌, List, get_or, sym, refl, ap, ◌∙◌}
 use Rattle.std.specs.declared.option.Option.TheVariants as option
 use Rattle.model.specs.declared.Element.{Element}
-use Rattle.model.specs.declared.Element.TheVariants.{Activity, AndSplit, Bar, AndJoin, XorSplit, XorJoin, LoopStart, LoopEnd}
+use Rattle.model.specs.declared.Element.TheVariants.{AndSplit}
 use Rattle.model.specs.declared.Edge.{Edge}
 use Rattle.model.specs.declared.Fact.{Fact}
 use Rattle.model.specs.declared.Fact.TheVariants.{Nothing, Begun, Ended, Decided, Left}
@@ -17,16 +17,7 @@ use Rattle.marking.specs.Machine.{signals, start}
 use Rattle.marking.specs.States.{settled, settled_in, free_in, with_signal, state_in}
 use Rattle.marking.specs.Nearby.{signal_in, dead, telling}
 use Rattle.marking.proofs.Owns.{own_at, own_none}
-
-bears_before : (x : Element) (id p : ℕ) → Bears x id → gap_of x p ≡ p
-bears_before (Activity i) id p b = refl
-bears_before AndSplit id p b = refl
-bears_before Bar id p b = elim b [ ]
-bears_before AndJoin id p b = refl
-bears_before (XorSplit i) id p b = refl
-bears_before XorJoin id p b = refl
-bears_before LoopStart id p b = refl
-bears_before (LoopEnd i) id p b = refl
+use Rattle.marking.proofs.Around.{stands_before}
 
 -- the state hangs on no more of the signal
 pub state_told : (g : Signal) (f : Fact) (r : Bool) → state_of (telling g f) f r ≡ state_of g f r
@@ -54,7 +45,7 @@ or_false false = refl
 
 module _ (xs : List Element) (fs : List Fact) (id : ℕ) where
   pub node_before : (p : ℕ) → Finds xs id (option.Some p) → gap_of (get_or xs p AndSplit) p ≡ p
-  node_before p f = bears_before (get_or xs p AndSplit) id p f.1
+  node_before p f = stands_before (λ x. Bears x id) (λ b. b) (get_or xs p AndSplit) p f.1
 
   module _ (p : ℕ) (one : Unique xs) (found : Finds xs id (option.Some p)) where
     settled_at : settled_in xs fs id ≡ dead xs fs p || is_done (fact_of fs id)
