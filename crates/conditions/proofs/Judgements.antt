@@ -20,7 +20,8 @@ use Rattle.followers.specs.Followers.{follower}
 use Rattle.followers.proofs.TreeFollowers.{followers_at}
 use Rattle.changes.specs.declared.Change.{Change}
 use Rattle.changes.specs.declared.Change.TheVariants.{DropEdge, Delete, Insert, InsertBeside, AddEdge}
-use Rattle.conditions.specs.Conditions.{is_busy, least, signal_at, is_follower, busy_follower, hindered_at, in_order, hindrance}
+use Rattle.marking.specs.Nearby.{signal_in}
+use Rattle.conditions.specs.Conditions.{is_busy, least, is_follower, busy_follower, hindered_at, in_order, hindrance}
 use Rattle.conditions.specs.Meaning.{Busy, BusyFollower, FalseGap, FreeGap, HinderedBy, Judged, HindrancesAreTold}
 use Rattle.conditions.proofs.LeastIds.{LeastOf, least_tells}
 use Rattle.conditions.proofs.Orders.{decides_busy, decides_order}
@@ -61,10 +62,10 @@ module _ (S : SchemaParts) (fs : List Fact) (ok : Admitted S) where
         back h =
             ap₂ (λ a b. a && b) (told ∙ ap₂ (λ a b. a && b) (lt-ltb u 64 (busy_low u h.1)) h.0) ((decides_busy (state_in S.row S.edges fs u)).1 h.1)
 
-    decides_false : Decides (is_false (signal_at S.row fs g)) (FalseGap fs t g)
+    decides_false : Decides (is_false (signal_in S.row fs g)) (FalseGap fs t g)
     decides_false =
         let same = ap (λ gs. get_or gs g signal.None) (on_tree fs S.row (signals fs start S.row) refl t is) in
-        (λ e. sym same ∙ is_false_tells (signal_at S.row fs g) e, λ h. ap is_false (same ∙ h))
+        (λ e. sym same ∙ is_false_tells (signal_in S.row fs g) e, λ h. ap is_false (same ∙ h))
 
     -- What a gap answers.
     abbrev GapTold : Option ℕ → Type 0
@@ -81,9 +82,9 @@ module _ (S : SchemaParts) (fs : List Fact) (ok : Admitted S) where
     }
 
     gap_told : GapTold (hindered_at S fs g)
-    gap_told = go (is_false (signal_at S.row fs g)) refl
+    gap_told = go (is_false (signal_in S.row fs g)) refl
       where
-        go : (b : Bool) → is_false (signal_at S.row fs g) ≡ b → GapTold (cond b None (least (busy_follower S fs g)))
+        go : (b : Bool) → is_false (signal_in S.row fs g) ≡ b → GapTold (cond b None (least (busy_follower S fs g)))
         go true e = inl (decides_false.0 e)
         go false e = by_least (not_from_Decides _ decides_false e) (least (busy_follower S fs g)) (least_tells (busy_follower S fs g))
 

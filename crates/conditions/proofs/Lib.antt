@@ -4,3 +4,4 @@ pub mod Against
 pub mod Orders
 pub mod Judgements
 pub mod StageByStage
+pub mod Begun

@@ -2,6 +2,7 @@
 use Rattle.std.proofs.Common.{◌≡◌, ℕ, Bool, true, false, not, cond, eqb, ◌⊎◌, List, [], ◌∷◌, ◌++◌, Some, None, Decides, Option, refl, ap, ap₂, ◌∙◌, subst, inl, inr, ⊎_elim}
 use Rattle.std.proofs.lemmas.Bool.{ltb-true, lt-ltb, eqb-false, ne_eqb, not-true}
 use Rattle.std.proofs.lemmas.Bool.Decides.{Decides-and, Decides-or, Decides-not, not_from_Decides}
+use Rattle.std.specs.Option.{option_or}
 use Rattle.model.specs.declared.Edge.{Edge}
 use Rattle.model.specs.declared.Element.{Element}
 use Rattle.model.specs.declared.Entry.{Entry}
@@ -17,7 +18,7 @@ use Rattle.history.specs.declared.EntryKind.{EntryKind}
 use Rattle.history.specs.declared.EntryKind.TheVariants.{Start, End, Choose}
 use Rattle.history.specs.Entries.{last_place, before}
 use Rattle.agreement.specs.FalseGaps.{is_other, otherwise}
-use Rattle.conditions.specs.Deciders.{decisions_at, or_else, decided_against}
+use Rattle.conditions.specs.Deciders.{decisions_at, decided_against}
 use Rattle.conditions.specs.Conditions.{is_busy, is_completed, is_skipped, decided_before, decisions_around_node, decider, in_order}
 use Rattle.conditions.specs.Meaning.{Before, Against, NoneAgainst, Outermost, FellAgainst, DecidedBefore, InOrder}
 
@@ -80,7 +81,7 @@ module _ (fs : List Fact) where
   none_told [] e = tt
   none_told (d ∷ ds) e = go (decided_against fs ds) refl (otherwise fs d) refl e (none_told ds)
     where
-      go : (o : Option ℕ) → decided_against fs ds ≡ o → (b : Bool) → otherwise fs d ≡ b → or_else o (cond b (Some d.0) None) ≡ None
+      go : (o : Option ℕ) → decided_against fs ds ≡ o → (b : Bool) → otherwise fs d ≡ b → option_or o (cond b (Some d.0) None) ≡ None
           → (decided_against fs ds ≡ None → NoneAgainst fs ds) → NoneAgainst fs (d ∷ ds)
       go (Some i) is b other e rest = absurd cc
       go None is true other e rest = absurd cc
@@ -89,7 +90,7 @@ module _ (fs : List Fact) where
   none_back : (ds : List (ℕ × ℕ)) → NoneAgainst fs ds → decided_against fs ds ≡ None
   none_back [] h = refl
   none_back (d ∷ ds) h =
-      ap₂ (λ o b. or_else o (cond b (Some d.0) None)) (none_back ds h.1) (no (otherwise fs d) refl)
+      ap₂ (λ o b. option_or o (cond b (Some d.0) None)) (none_back ds h.1) (no (otherwise fs d) refl)
     where
       no : (b : Bool) → otherwise fs d ≡ b → otherwise fs d ≡ false
       no true e = absurd (h.0 ((decides_against d).0 e))
@@ -99,7 +100,7 @@ module _ (fs : List Fact) where
   outermost_told [] i e = absurd cc
   outermost_told (d ∷ ds) i e = go (decided_against fs ds) refl (otherwise fs d) refl e (λ is. outermost_told ds i is)
     where
-      go : (o : Option ℕ) → decided_against fs ds ≡ o → (b : Bool) → otherwise fs d ≡ b → or_else o (cond b (Some d.0) None) ≡ Some i
+      go : (o : Option ℕ) → decided_against fs ds ≡ o → (b : Bool) → otherwise fs d ≡ b → option_or o (cond b (Some d.0) None) ≡ Some i
           → (decided_against fs ds ≡ Some i → Outermost fs ds i) → Outermost fs (d ∷ ds) i
       go (Some j) is b other e rest =
           let r = rest (is ∙ e) in
@@ -118,8 +119,8 @@ module _ (fs : List Fact) where
 
   parted_back : (inner : List (ℕ × ℕ)) (i b : ℕ) (outer : List (ℕ × ℕ)) → Against fs (i, b) → NoneAgainst fs outer
       → decided_against fs (inner ++ (i, b) ∷ outer) ≡ Some i
-  parted_back [] i b outer against last = ap₂ (λ o c. or_else o (cond c (Some i) None)) (none_back outer last) ((decides_against (i, b)).1 against)
-  parted_back (d ∷ inner) i b outer against last = ap (λ o. or_else o (cond (otherwise fs d) (Some d.0) None)) (parted_back inner i b outer against last)
+  parted_back [] i b outer against last = ap₂ (λ o c. option_or o (cond c (Some i) None)) (none_back outer last) ((decides_against (i, b)).1 against)
+  parted_back (d ∷ inner) i b outer against last = ap (λ o. option_or o (cond (otherwise fs d) (Some d.0) None)) (parted_back inner i b outer against last)
 
   outermost_back : (ds : List (ℕ × ℕ)) (i : ℕ) → Outermost fs ds i → decided_against fs ds ≡ Some i
   outermost_back ds i r = ap (decided_against fs) r.parted ∙ parted_back r.inner i r.branch r.outer r.against r.last

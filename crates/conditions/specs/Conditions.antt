@@ -3,21 +3,19 @@
 --   hindrance S fs es c    the node by which change c of schema S fails in a case with facts fs and entries es; none if the
 --                          change is accepted
 --   failing S fs es p cs   the first change that fails, each judged on the schema that those before it left, and the node
-use Rattle.std.specs.Prelude.{ℕ, zero, suc, ◌+◌, Bool, true, false, cond, not, ◌&&◌, ◌||◌, List, [], ◌∷◌, drop, Some, None, Option, slice_index_or}
+use Rattle.std.specs.Prelude.{ℕ, zero, suc, ◌+◌, Bool, true, false, cond, not, ◌&&◌, ◌||◌, List, [], ◌∷◌, drop, Some, None, Option}
 use Rattle.ids.specs.declared.IdSet.{IdSet}
 use Rattle.ids.specs.Sets.{has}
 use Rattle.model.specs.declared.Edge.{Edge}
 use Rattle.model.specs.declared.Element.{Element}
 use Rattle.model.specs.declared.Entry.{Entry}
 use Rattle.model.specs.declared.Fact.{Fact}
-use Rattle.model.specs.declared.Signal.{Signal}
-use Rattle.model.specs.declared.Signal.TheVariants as signal
 use Rattle.model.specs.declared.State.{State}
 use Rattle.model.specs.declared.State.TheVariants.{NotActivated, Activated, Running, Completed, Skipped}
 use Rattle.model.specs.Signals.{is_false}
 use Rattle.schema.specs.Checks.{SchemaParts}
 use Rattle.schema.specs.Tables.{place_in}
-use Rattle.marking.specs.Machine.{signals, start}
+use Rattle.marking.specs.Nearby.{signal_in}
 use Rattle.marking.specs.States.{state_in}
 use Rattle.history.specs.declared.EntryKind.TheVariants.{Start, End, Choose}
 use Rattle.history.specs.Entries.{last_place, before}
@@ -64,9 +62,6 @@ least P = least_from P 0 64
 unfoldable pub least_busy : SchemaParts → List Fact → IdSet → Option ℕ
 least_busy S fs ids = least (λ id. has ids id && is_busy (state_in S.row S.edges fs id))
 
-abbrev pub signal_at : List Element → List Fact → ℕ → Signal
-signal_at xs fs g = slice_index_or (signals fs start xs) g signal.None
-
 abbrev pub is_follower : List Element → ℕ → ℕ → Bool
 is_follower xs g id = has (followers (drop g xs)) id
 
@@ -76,7 +71,7 @@ busy_follower S fs g id = is_follower S.row g id && is_busy (state_in S.row S.ed
 -- What is put in at gap g is hindered by the least of the gap's followers that are Running or Completed, unless the gap is
 -- false.
 abbrev pub hindered_at : SchemaParts → List Fact → ℕ → Option ℕ
-hindered_at S fs g = cond (is_false (signal_at S.row fs g)) None (least (busy_follower S fs g))
+hindered_at S fs g = cond (is_false (signal_in S.row fs g)) None (least (busy_follower S fs g))
 
 -- The decision that fell against the branch of node a was made before node b was started.
 abbrev pub decided_before : List Entry → ℕ → Option ℕ → Bool

@@ -4,23 +4,26 @@ ghost use Rattle.model.specs.Signals.{is_false};
 ghost use Rattle.schema.specs.Schemas.{parts};
 ghost use Rattle.conditions.specs.Conditions.{least_busy, hindered_at};
 
-use crate::states::is_busy;
+use crate::states::has_begun;
 use facts::Facts;
 use followers::followers;
 use ids::IdSet;
-use marking::states::Signals;
+use marking::nearby::signal_at;
 use model::Signal;
 use schema::schema::Schema;
 
 // The least of these nodes that is Running or Completed.
-#[tactic(auto, using(crate::proofs::BusyNodes::from_first, crate::proofs::BusyNodes::found_here, crate::proofs::BusyNodes::not_here, crate::proofs::BusyNodes::none_found))]
-fn least_busy(signals: &Signals<'_>, nodes: IdSet) -> Option<u8>
-    ensures { result ≡ least_busy (parts signals.now.schema.now) signals.now.facts.now nodes }
+#[tactic(auto, using(crate::proofs::BusyNodes::all_left, crate::proofs::BusyNodes::none_left, crate::proofs::BusyNodes::found_here, crate::proofs::BusyNodes::one_less))]
+fn least_busy(schema: &Schema, facts: &Facts, nodes: IdSet) -> Option<u8>
+    ensures { result ≡ least_busy (parts schema.now) facts.now nodes }
 {
-    for id in 0..64 {
-        if nodes.has(id) && is_busy(signals.state(id)) {
+    let mut rest = nodes;
+    for _ in 0..64u8 {
+        let id = rest.least()?;
+        if has_begun(schema, facts, id) {
             return Some(id);
         }
+        rest = rest.difference(IdSet::only(id));
     }
     None
 }
@@ -31,15 +34,17 @@ fn is_false(signal: Signal) -> bool
     signal == Signal::False
 }
 
-// The least follower of the gap that is Running or Completed; none where the gap is false.
+// The least follower of the gap that is Running or Completed; none where the gap is false. Mostly no follower is, and the
+// signal need not be looked for.
 #[tactic(auto, unfolding(crate::specs::Conditions::least_busy))]
 pub(crate) fn hindered_at(schema: &Schema, facts: &Facts, gap: u8) -> Option<u8>
     ensures { result ≡ hindered_at (parts schema.now) facts.now gap }
 {
     let gap = usize::from(gap);
-    let signals = Signals::of(schema, facts);
-    if is_false(signals.of_gap(gap)) {
-        return None;
+    let busy = least_busy(schema, facts, followers(schema.row(), gap))?;
+    if is_false(signal_at(schema, facts, gap)) {
+        None
+    } else {
+        Some(busy)
     }
-    least_busy(&signals, followers(schema.row(), gap))
 }

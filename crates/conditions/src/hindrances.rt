@@ -5,12 +5,11 @@ ghost use Rattle.conditions.specs.Conditions.{decided_before, in_order, hindranc
 
 use crate::deciders::decider;
 use crate::gaps::hindered_at;
-use crate::states::{is_busy, is_completed, is_skipped};
+use crate::states::{has_begun, is_completed, is_skipped};
 use changes::Change;
 use facts::Facts;
 use history::{EntryKind, Store, comes_before};
 use marking::marking::node_state;
-use marking::states::Signals;
 use model::Edge;
 use schema::schema::Schema;
 
@@ -29,11 +28,10 @@ fn decided_before<S: Store>(store: &S, id: u8, decider: Option<u8>) -> bool
 fn in_order<S: Store>(schema: &Schema, facts: &Facts, store: &S, edge: Edge) -> bool
     ensures { result ≡ in_order (parts schema.now) facts.now (S.view store.now).list edge }
 {
-    let signals = Signals::of(schema, facts);
-    if !is_busy(signals.state(edge.target)) {
+    if !has_begun(schema, facts, edge.target) {
         return true;
     }
-    let source = signals.state(edge.source);
+    let source = node_state(schema, facts, edge.source);
     if is_skipped(source) {
         return decided_before(store, edge.target, decider(schema, facts, edge.source));
     }
@@ -52,7 +50,7 @@ pub fn hindrance<S: Store>(schema: &Schema, facts: &Facts, store: &S, change: Ch
     match change {
         Change::DropEdge(_) => None,
         Change::Delete { id } => {
-            if is_busy(node_state(schema, facts, id)) {
+            if has_begun(schema, facts, id) {
                 Some(id)
             } else {
                 None

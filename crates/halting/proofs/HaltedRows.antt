@@ -17,7 +17,8 @@ use Rattle.followers.specs.Backwards.{followers}
 use Rattle.followers.proofs.TreeFollowers.{followers_at}
 use Rattle.agreement.proofs.SoundRows.{Stands, own_stands, stands_among, stands_own}
 use Rattle.agreement.proofs.Deciders.{Sure}
-use Rattle.conditions.specs.Conditions.{signal_at, is_follower}
+use Rattle.marking.specs.Nearby.{signal_in}
+use Rattle.conditions.specs.Conditions.{is_follower}
 use Rattle.halting.specs.Halts.{Halts, TrueWithFacts}
 use Rattle.halting.proofs.StoppedSequences.{passable, within}
 use Rattle.halting.proofs.OwnSignals.{own_of, own_tree}
@@ -53,7 +54,7 @@ module _ (fs : List Fact) (a : ℕ) (x y rest : Seq) (mid : Signal → Signal) (
   abbrev f : ℕ → Bool
   f = next_in C (passable rest) (within rest)
 
-  here_signal : signal_at xs fs (number C + k) ≡ mid (signal_in fs C True)
+  here_signal : signal_in xs fs (number C + k) ≡ mid (signal_in fs C True)
   here_signal = ap (λ us. get_or us (number C + k) None) (row_signals fs xs (filled_in C x) was) ∙ signal_there fs x k mid sig C True []
 
   here_followers : (i : ℕ) → is_follower xs (number C + k) i ≡ (ltb i 64 && f i)

@@ -15,7 +15,8 @@ use Rattle.agreement.specs.Growth.{has_fact}
 use Rattle.changes.specs.declared.Change.TheVariants.{Insert, InsertBeside}
 use Rattle.changes.specs.Effects.{row_after}
 use Rattle.draft_rules.specs.Laws.{Admissible}
-use Rattle.conditions.specs.Conditions.{signal_at, is_follower}
+use Rattle.marking.specs.Nearby.{signal_in}
+use Rattle.conditions.specs.Conditions.{is_follower}
 
 abbrev pub TrueWithFacts : List Element → List Fact → Type 0
 TrueWithFacts xs fs = (id : ℕ) (g : Signal) → has_fact (fact_of fs id) ≡ true → own_in xs fs id ≡ Some g → g ≡ True
@@ -24,9 +25,9 @@ pub record Halts (xs ys : List Element) (a g : ℕ) (fs : List Fact) : Type 0 wh
   -- Each old node has the own signal that it had, or is a follower whose signal was true and is none now.
   pub seen : (id : ℕ) → (id ≡ a → ⊥) → (own_in ys fs id ≡ own_in xs fs id) ⊎ ((is_follower xs g id ≡ true) × (own_in xs fs id ≡ Some True) × (own_in ys fs id ≡ Some None))
   -- Unless the gap is true, nothing changes.
-  pub idle : is_true (signal_at xs fs g) ≡ false → (id : ℕ) → (id ≡ a → ⊥) → own_in ys fs id ≡ own_in xs fs id
+  pub idle : is_true (signal_in xs fs g) ≡ false → (id : ℕ) → (id ≡ a → ⊥) → own_in ys fs id ≡ own_in xs fs id
   -- Unless it is false, its followers have no signal, where nodes with facts have true ones.
-  pub stopped : TrueWithFacts xs fs → is_false (signal_at xs fs g) ≡ false → (id : ℕ) → is_follower xs g id ≡ true → own_in ys fs id ≡ Some None
+  pub stopped : TrueWithFacts xs fs → is_false (signal_in xs fs g) ≡ false → (id : ℕ) → is_follower xs g id ≡ true → own_in ys fs id ≡ Some None
 
 -- An activity at a gap halts the gap's followers.
 abbrev pub AnInsertHaltsFollowers : Type 0

@@ -3,7 +3,8 @@
 --   empty, only i      the set of no id, and of one
 --   with_id s i        the ids of s, and i if it is one
 --   union, intersection, difference
-use Rattle.std.specs.Prelude.{ℕ, ◌/◌, ◌%◌, ◌^◌, Bool, false, cond, Some, None, Option, ◌==◌, bit_and, bit_or, bit_xor, nat_lt}
+--   LeastIn s o        o is the least id of s, if there is one
+use Rattle.std.specs.Prelude.{◌≡◌, ℕ, ◌/◌, ◌%◌, ◌^◌, ◌<◌, Bool, true, false, cond, Some, None, Option, ◌==◌, bit_and, bit_or, bit_xor, nat_lt}
 use Rattle.ids.specs.declared.IdSet.{IdSet}
 
 unfoldable pub has : IdSet → ℕ → Bool
@@ -34,3 +35,8 @@ intersection s t = record { bits = bit_and s.bits t.bits }
 -- The ids of s that are not in t.
 unfoldable pub difference : IdSet → IdSet → IdSet
 difference s t = record { bits = bit_xor s.bits (bit_and s.bits t.bits) }
+
+-- This is the least id of the set, if it has one.
+abbrev pub LeastIn : IdSet → Option ℕ → Type 0
+LeastIn s None = (i : ℕ) → has s i ≡ false
+LeastIn s (Some i) = (i < 64) × (has s i ≡ true) × ((j : ℕ) → j < i → has s j ≡ false)

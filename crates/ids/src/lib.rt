@@ -3,7 +3,7 @@
 
 ghost use Rattle.std.specs.Prelude.{◌≡◌, ℕ, Bool, false, not, ◌&&◌, ◌||◌, ◌==◌, nat_lt};
 ghost use Rattle.ids.specs.Counts.{how_many};
-ghost use Rattle.ids.specs.Sets.{has, empty, only, with_id, is_id, union, intersection, difference};
+ghost use Rattle.ids.specs.Sets.{has, empty, only, with_id, is_id, union, intersection, difference, LeastIn};
 
 // A set of ids 0 to 63; an id above 63 is never in one.
 #[derive(Clone, Copy, PartialEq, Eq)]
@@ -70,6 +70,18 @@ impl IdSet {
         IdSet {
             bits: self.bits ^ self.intersection(other).bits,
         }
+    }
+
+    // The least id in the set.
+    #[tactic(auto, using(crate::proofs::Lowest::none_has))]
+    pub fn least(self) -> Option<u8>
+        ensures { LeastIn self result }
+    {
+        if self.bits == 0 {
+            return None;
+        }
+        // below 64, as the check proves: a cast, since `u8::try_from` would answer an error that can't come
+        Some(self.bits.trailing_zeros() as u8)
     }
 
     // How many ids are in the set.

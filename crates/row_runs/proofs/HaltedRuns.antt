@@ -23,7 +23,8 @@ use Rattle.agreement.specs.Growth.{has_fact, Leq}
 use Rattle.agreement.proofs.Progress.{step_of}
 use Rattle.agreement.proofs.SoundRows.{own_stands}
 use Rattle.agreement.proofs.GrowRuns.{Sound, no_facts_sound, step_own, step_sound, ran}
-use Rattle.conditions.specs.Conditions.{is_busy, signal_at, is_follower}
+use Rattle.marking.specs.Nearby.{signal_in}
+use Rattle.conditions.specs.Conditions.{is_busy, is_follower}
 use Rattle.conditions.specs.Kinds.{NoEntry}
 use Rattle.halting.specs.Halts.{Halts}
 use Rattle.row_runs.proofs.BusyNodes.{none_yet, other_fact, begun_busy}
@@ -47,7 +48,7 @@ pub record Halting (S : SchemaParts) (ys : List Element) (a g : ℕ) : Type 0 wh
 
 abbrev pub Clear : SchemaParts → ℕ → List Fact → Type 0
 Clear S g gs =
-    (is_false (signal_at S.row gs g) ≡ true)
+    (is_false (signal_in S.row gs g) ≡ true)
     ⊎ ((id : ℕ) → id < 64 → is_follower S.row g id ≡ true → is_busy (state_in S.row S.edges gs id) ≡ false)
 
 -- a gap that is false at the end was never true
@@ -132,7 +133,7 @@ module _ (S : SchemaParts) (ys : List Element) (a g : ℕ) (H : Halting S ys a g
 
   -- once a node that is halted has begun, nothing runs that ran
   rejected : (fs gs hs : List Fact) (es : List Entry) → length fs ≡ 64 → Sound S.row fs → fact_of fs a ≡ Nothing → NoEntry a es
-      → Runs S fs es gs → Runs T fs es hs → is_false (signal_at S.row gs g) ≡ false
+      → Runs S fs es gs → Runs T fs es hs → is_false (signal_in S.row gs g) ≡ false
       → (id : ℕ) → is_follower S.row g id ≡ true → has_fact (fact_of gs id) ≡ true → has_fact (fact_of fs id) ≡ false → ⊥
   rejected fs _ hs [] n s z q ends y live id fol has not_yet = true≢false (sym has ∙ not_yet)
   rejected fs gs hs (e ∷ es) n s z q (steps b r) (steps d y) live id fol has not_yet =
@@ -177,6 +178,6 @@ module _ (S : SchemaParts) (ys : List Element) (a g : ℕ) (H : Halting S ys a g
     runs_back hs r = returned no_facts hs es long (no_facts_sound ys) (none_yet a) other r
 
     -- what runs on both has none of the halted followers begun, unless the gap is false
-    pub runs_not : (gs hs : List Fact) → Runs S no_facts es gs → Runs T no_facts es hs → is_false (signal_at S.row gs g) ≡ false
+    pub runs_not : (gs hs : List Fact) → Runs S no_facts es gs → Runs T no_facts es hs → is_false (signal_in S.row gs g) ≡ false
         → (id : ℕ) → is_follower S.row g id ≡ true → has_fact (fact_of gs id) ≡ true → ⊥
     runs_not gs hs r y live id fol has = rejected no_facts gs hs es long (no_facts_sound S.row) (none_yet a) other r y live id fol has (ap has_fact (none_yet id))
