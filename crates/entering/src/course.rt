@@ -1,13 +1,14 @@
 // The course of a case, and the steps that are entered in it.
-ghost use Rattle.std.specs.Prelude.{◌≡◌, Some, Ok};
+ghost use Rattle.std.specs.Prelude.{◌≡◌, Some, Ok, Err};
 ghost use Rattle.model.specs.Entries.{entry_read};
 ghost use Rattle.case_record.specs.Entries.{entries_in};
 ghost use Rattle.agreement.specs.Laws.{no_facts};
 ghost use Rattle.marking.specs.Markings.{MarkingOf};
-ghost use Rattle.marking.specs.States.{state_in};
+ghost use Rattle.marking.specs.States.{state_in, finished_in};
 ghost use Rattle.history.specs.Stores.{cleared};
 ghost use Rattle.draft_rules.specs.Plans.{released_of};
 ghost use Rattle.drafts.specs.Views.{planned};
+ghost use Rattle.lives.specs.declared.CallRefusal.{CallRefusal};
 ghost use Rattle.lives.specs.Calls.{held, entered, repeated, taken};
 ghost use Rattle.lives.specs.Moves.{move_refusal};
 ghost use Rattle.lives.specs.Lives.{Leaves};
@@ -20,11 +21,11 @@ use drafts::plan::Plan;
 use facts::Facts;
 use history::Store;
 use lives::CallRefusal;
-use marking::marking::{Marking, node_state};
+use marking::marking::{Marking, is_finished, node_state};
 use model::refusal::StepRefusal;
 use model::{Entry, State};
 use rounds::nodes::round_of;
-use runs::steps::step;
+use runs::steps::fact_of_step;
 use schema::schema::Schema;
 
 // What has happened on a schema: the facts of its nodes, and the history that a store keeps. No `impl Model`: a case gives the
@@ -73,17 +74,26 @@ impl<'s, S: Store> Course<'s, S> {
         node_state(self.schema, &self.facts, id)
     }
 
+    // Whether all has ended.
+    pub fn is_finished(&self) -> bool
+        ensures { result ≡ finished_in (schema_of self.now).row self.now.facts }
+    {
+        is_finished(self.schema, &self.facts)
+    }
+
     // Takes a step that the schema allows and for which the store has a place; the place told is that in a record.
     pub fn enter(&mut self, place: Option<usize>, entry: Entry) -> Result<(), CallRefusal>
-        ensures { Becomes S.view (λ h k. Changed (entered (schema_of self.old) place entry h) h k result) self.old self.new }
+        ensures after { Becomes S.view (λ h k. Changed (entered (schema_of self.old) place entry h) h k result) self.old self.new }
+        ensures same { (r : CallRefusal) → result ≡ Err r → self.new ≡ self.old }
     {
         let id = entry.id();
-        let mut next = self.facts;
-        step(self.schema, &mut next, entry).map_err(|refusal| refusal.at(place, id))?;
+        let fact = fact_of_step(self.schema, &self.facts, entry).map_err(|refusal| refusal.at(
+            place, id,
+        ))?;
         self.store
             .add(entry)
             .map_err(|_| CallRefusal::Store { place, id })?;
-        self.facts = next;
+        self.facts.note(id, fact);
         Ok(())
     }
 
@@ -91,10 +101,12 @@ impl<'s, S: Store> Course<'s, S> {
     pub fn repeat(&mut self, test: u8) -> Result<(), CallRefusal>
         ensures after { Becomes S.view (λ h k. Changed (repeated S.Cost.PLACES (schema_of self.old) test k.store.free h) h k result) self.old self.new }
         ensures bounds { result ≡ Ok tt → Leaves S.Cost.PLACES test (S.view self.new.store).free (schema_of self.old) (S.view self.old.store) }
+        ensures same { (r : CallRefusal) → result ≡ Err r → self.new ≡ self.old }
     {
-        // it needs what leaving needs, and leaves no fact
-        let mut left = self.facts;
-        step(self.schema, &mut left, Entry::Leave(test)).map_err(|refusal| refusal.at(None, test))?;
+        // it needs what leaving needs, and sets no fact
+        fact_of_step(self.schema, &self.facts, Entry::Leave(test)).map_err(|refusal| refusal.at(
+            None, test,
+        ))?;
         let round = round_of(self.schema, test);
         self.store.purge(round).map_err(|_| CallRefusal::Store {
             place: None,
@@ -139,7 +151,7 @@ impl<'s, S: Store> Course<'s, S> {
     pub fn move_refusal(&self, plan: &Plan) -> Option<CallRefusal>
         ensures { result ≡ move_refusal (planned plan.now) (progress_of self.now) (S.view self.now.store).list }
     {
-        if self.marking().is_finished() {
+        if self.is_finished() {
             return Some(CallRefusal::Finished);
         }
         if !plan.is_of(self.schema) {

@@ -2,13 +2,13 @@
 ghost use Rattle.std.specs.Prelude.{◌≡◌, length};
 ghost use Rattle.model.specs.Signals.{decided};
 ghost use Rattle.schema.specs.Schemas.{parts};
-ghost use Rattle.marking.specs.States.{state_in};
+ghost use Rattle.marking.specs.States.{state_in, finished_in};
 
-use crate::nearby::telling_signal;
+use crate::nearby::{signal_at, telling_signal};
 use crate::states::{Signals, state_of};
 use bounded::get_or;
 use facts::Facts;
-use model::{Fact, State};
+use model::{Fact, Signal, State};
 use schema::schema::Schema;
 use std::array;
 
@@ -82,4 +82,11 @@ pub fn node_state(schema: &Schema, facts: &Facts, id: u8) -> Option<State>
     let place = schema.place(id)?;
     let signal = telling_signal(schema, facts, place, facts.of(id));
     Some(state_of(schema, facts, id, signal))
+}
+
+// Whether a case with these facts is finished: the gap behind the row is true.
+pub fn is_finished(schema: &Schema, facts: &Facts) -> bool
+    ensures { result ≡ finished_in (parts schema.now).row facts.now }
+{
+    signal_at(schema, facts, schema.row().len()) == Signal::True
 }

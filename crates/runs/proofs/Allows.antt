@@ -35,6 +35,10 @@ only_state NotActivated e f h = never f h
 only_state Completed e f h = never f h
 only_state Skipped e f h = never f h
 
+-- what the rule sets is the step's own fact
+pub sets_its_fact : (s : State) (e : Entry) (f : Fact) → Some f ≡ next_fact s e → f ≡ fact_set e
+sets_its_fact s e f h = (only_state s e f (sym h)).1
+
 module _ (S : SchemaParts) (fs : List Fact) (e : Entry) where
   abbrev after : List Fact
   after = set fs (entry_id e) (fact_set e)

@@ -4,6 +4,7 @@
 --   Allowed S fs e        e is a step that the marking allows
 --   Runs S fs es gs       from the facts fs the entries es are steps, one after the other, and end in the facts gs
 --   step_in S fs e        what one step gives: the facts after it, or why it is refused
+--   Sets v fs e r         r is the fact that step e sets, or why it is refused, where it gives v
 use Rattle.std.specs.Prelude.{◌≡◌, ℕ, Bool, true, false, cond, List, [], ◌∷◌, Some, None, Ok, Err, Decides, Option, Result, nat_le, slice_index_or, slice_set}
 use Rattle.model.specs.declared.Element.{Element}
 use Rattle.model.specs.declared.Element.TheVariants.{Activity, AndSplit, Bar, AndJoin, XorSplit, XorJoin, LoopStart, LoopEnd}
@@ -103,6 +104,11 @@ in_state fs e (Some s) = noted fs e (next_fact s e)
 abbrev pub step_in : SchemaParts → List Fact → Entry → Result (List Fact) StepRefusal
 step_in S fs e =
     cond (fits_in S.row e) (in_state fs e (state_in S.row S.edges fs (entry_id e))) (Err refusal.Node)
+
+-- The fact that a step sets, where it may be taken; else why it is refused.
+abbrev pub Sets : Result (List Fact) StepRefusal → List Fact → Entry → Result Fact StepRefusal → Type 0
+Sets v fs e (Ok f) = (f ≡ fact_set e) × (v ≡ Ok (slice_set fs (entry_id e) f))
+Sets v fs e (Err r) = v ≡ Err r
 
 -- An entry's bytes, judged at its turn.
 abbrev pub judged : SchemaParts → List Fact → Option Entry → Result (List Fact) StepRefusal

@@ -1,7 +1,7 @@
 // One step of a case.
 ghost use Rattle.std.specs.Prelude.{◌≡◌, ◌<◌, length};
 ghost use Rattle.schema.specs.Schemas.{parts};
-ghost use Rattle.runs.specs.Steps.{branch_in, fits_in, next_fact, NodeTold, Stepped, step_in};
+ghost use Rattle.runs.specs.Steps.{branch_in, fits_in, next_fact, NodeTold, Sets, Stepped, step_in};
 
 use facts::Facts;
 use marking::marking::node_state;
@@ -45,11 +45,10 @@ fn next_fact(state: State, entry: Entry) -> Option<Fact>
     }
 }
 
-// Takes one step: its fact is noted, or it is refused and nothing changes. The facts stay apart from the schema, since a
-// caller may try a step on a copy of them.
-#[tactic(auto, using(crate::proofs::NodesFit::node_told))]
-pub fn step(schema: &Schema, facts: &mut Facts, entry: Entry) -> Result<(), StepRefusal>
-    ensures after { Stepped (step_in (parts schema.now) facts.old entry) facts.old facts.new result }
+// The fact that a step sets, if it may be taken.
+#[tactic(auto, using(crate::proofs::NodesFit::node_told, crate::proofs::Allows::sets_its_fact))]
+pub fn fact_of_step(schema: &Schema, facts: &Facts, entry: Entry) -> Result<Fact, StepRefusal>
+    ensures fact { Sets (step_in (parts schema.now) facts.now entry) facts.now entry result }
     ensures node { NodeTold (parts schema.now).row entry }
 {
     if !fits(schema, entry) {
@@ -57,6 +56,15 @@ pub fn step(schema: &Schema, facts: &mut Facts, entry: Entry) -> Result<(), Step
     }
     let state = node_state(schema, facts, entry.id());
     let next = state.and_then(|state| next_fact(state, entry));
-    facts.note(entry.id(), next.ok_or(StepRefusal::State)?);
+    next.ok_or(StepRefusal::State)
+}
+
+// Takes one step: its fact is noted, or it is refused and nothing changes.
+pub fn step(schema: &Schema, facts: &mut Facts, entry: Entry) -> Result<(), StepRefusal>
+    ensures after { Stepped (step_in (parts schema.now) facts.old entry) facts.old facts.new result }
+    ensures node { NodeTold (parts schema.now).row entry }
+{
+    let fact = fact_of_step(schema, facts, entry)?;
+    facts.note(entry.id(), fact);
     Ok(())
 }

@@ -29,7 +29,7 @@ impl<'s, S: Store, W: Worklist> Case<'s, S, W> {
     pub fn is_finished(&self) -> bool
         ensures { result ≡ finished_in (schema_of self.now.course).row self.now.course.facts }
     {
-        self.marking().is_finished()
+        self.course.is_finished()
     }
 
     pub fn number(&self) -> u32

@@ -1,6 +1,7 @@
 // The steps of a case: each changes the case itself, or is refused and changes nothing.
-ghost use Rattle.std.specs.Prelude.{◌≡◌, Ok};
+ghost use Rattle.std.specs.Prelude.{◌≡◌, Ok, Err};
 ghost use Rattle.model.specs.declared.Entry.TheVariants.{Start, End, Choose, Leave};
+ghost use Rattle.lives.specs.declared.CallRefusal.{CallRefusal};
 ghost use Rattle.lives.specs.Calls.{step_outcome, again_outcome};
 ghost use Rattle.lives.specs.Lives.{Leaves, stepped_history, repeated_history};
 ghost use Rattle.entering.specs.Courses.{schema_of};
@@ -30,6 +31,7 @@ impl<'s, S: Store, W: Worklist> Case<'s, S, W> {
         ensures answer { result ≡ (step_outcome entry (view_of S.view W.offered self.old)).answer }
         ensures after { view_of S.view W.offered self.new ≡ (step_outcome entry (view_of S.view W.offered self.old)).after }
         ensures life { Continues S.Cost.PLACES (stepped_history entry) (view_of S.view W.offered self.old) (view_of S.view W.offered self.new) }
+        ensures same { (r : CallRefusal) → result ≡ Err r → self.new ≡ self.old }
     {
         self.course.enter(None, entry)?;
         self.refresh();
@@ -42,6 +44,7 @@ impl<'s, S: Store, W: Worklist> Case<'s, S, W> {
         ensures answer { result ≡ (step_outcome (Start id) (view_of S.view W.offered self.old)).answer }
         ensures after { view_of S.view W.offered self.new ≡ (step_outcome (Start id) (view_of S.view W.offered self.old)).after }
         ensures life { Continues S.Cost.PLACES (stepped_history (Start id)) (view_of S.view W.offered self.old) (view_of S.view W.offered self.new) }
+        ensures same { (r : CallRefusal) → result ≡ Err r → self.new ≡ self.old }
     {
         self.take_step(Entry::Start(id))
     }
@@ -51,6 +54,7 @@ impl<'s, S: Store, W: Worklist> Case<'s, S, W> {
         ensures answer { result ≡ (step_outcome (End id) (view_of S.view W.offered self.old)).answer }
         ensures after { view_of S.view W.offered self.new ≡ (step_outcome (End id) (view_of S.view W.offered self.old)).after }
         ensures life { Continues S.Cost.PLACES (stepped_history (End id)) (view_of S.view W.offered self.old) (view_of S.view W.offered self.new) }
+        ensures same { (r : CallRefusal) → result ≡ Err r → self.new ≡ self.old }
     {
         self.take_step(Entry::End(id))
     }
@@ -60,6 +64,7 @@ impl<'s, S: Store, W: Worklist> Case<'s, S, W> {
         ensures answer { result ≡ (step_outcome (Choose id branch) (view_of S.view W.offered self.old)).answer }
         ensures after { view_of S.view W.offered self.new ≡ (step_outcome (Choose id branch) (view_of S.view W.offered self.old)).after }
         ensures life { Continues S.Cost.PLACES (stepped_history (Choose id branch)) (view_of S.view W.offered self.old) (view_of S.view W.offered self.new) }
+        ensures same { (r : CallRefusal) → result ≡ Err r → self.new ≡ self.old }
     {
         self.take_step(Entry::Choose(id, branch))
     }
@@ -69,6 +74,7 @@ impl<'s, S: Store, W: Worklist> Case<'s, S, W> {
         ensures answer { result ≡ (step_outcome (Leave id) (view_of S.view W.offered self.old)).answer }
         ensures after { view_of S.view W.offered self.new ≡ (step_outcome (Leave id) (view_of S.view W.offered self.old)).after }
         ensures life { Continues S.Cost.PLACES (stepped_history (Leave id)) (view_of S.view W.offered self.old) (view_of S.view W.offered self.new) }
+        ensures same { (r : CallRefusal) → result ≡ Err r → self.new ≡ self.old }
     {
         self.take_step(Entry::Leave(id))
     }
@@ -79,6 +85,7 @@ impl<'s, S: Store, W: Worklist> Case<'s, S, W> {
         ensures after { view_of S.view W.offered self.new ≡ (again_outcome S.Cost.PLACES test (S.view self.new.course.store).free (view_of S.view W.offered self.old)).after }
         ensures bounds { result ≡ Ok tt → Leaves S.Cost.PLACES test (S.view self.new.course.store).free (schema_of self.old.course) (S.view self.old.course.store) }
         ensures life { Continues S.Cost.PLACES (repeated_history S.Cost.PLACES test (S.view self.new.course.store).free) (view_of S.view W.offered self.old) (view_of S.view W.offered self.new) }
+        ensures same { (r : CallRefusal) → result ≡ Err r → self.new ≡ self.old }
     {
         self.course.repeat(test)?;
         self.refresh();
