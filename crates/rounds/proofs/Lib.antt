@@ -4,3 +4,4 @@ pub mod LoopEdges
 pub mod RoundRows
 pub mod DroppedRounds
 pub mod RoundSets
+pub mod Forgetting

@@ -1,5 +1,5 @@
 // A finished round of a loop, for all schemas that passed the checks. There is nothing to run: the contracts are the laws.
-ghost use Rattle.rounds.specs.Laws.{ARoundIsTheLoopsBody, AFinishedRoundCanBeDropped};
+ghost use Rattle.rounds.specs.Laws.{ARoundIsTheLoopsBody, AFinishedRoundCanBeDropped, ARoundIsForgotten};
 
 #[tactic(auto, using(crate::proofs::RoundRows::body_found))]
 pub fn a_round_is_the_loops_body()
@@ -9,4 +9,9 @@ pub fn a_round_is_the_loops_body()
 #[tactic(auto, using(crate::proofs::DroppedRounds::finished_dropped))]
 pub fn a_finished_round_can_be_dropped()
     ensures { AFinishedRoundCanBeDropped }
+{}
+
+#[tactic(auto, using(crate::proofs::Forgetting::round_forgotten))]
+pub fn a_round_is_forgotten()
+    ensures { ARoundIsForgotten }
 {}
