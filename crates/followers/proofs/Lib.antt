@@ -1,3 +1,4 @@
+pub mod Noting
 pub mod Passes
 pub mod Room
 pub mod TreeFollowers

@@ -1,29 +1,51 @@
 // Followers in rows of each kind of block.
-use crate::followers;
+use crate::FollowerTable;
 use ids::IdSet;
 use model::{Element, Row};
+use std::alloc::Global;
 use std::test::Fail;
 
+fn row(heap: Global, elements: &[Element]) -> Result<Row, Fail> {
+    let mut row = Row::new(heap)?;
+    for element in elements {
+        push(&mut row, *element)?;
+    }
+    Ok(row)
+}
+
+fn push(row: &mut Row, element: Element) -> Result<(), Fail> {
+    row.push(element).map_err(|_| Fail::new("the row is full"))
+}
+
+fn table_of(heap: Global, elements: &[Element]) -> Result<FollowerTable, Fail> {
+    Ok(FollowerTable::of(&row(heap, elements)?))
+}
+
 // Whether these are the followers of a gap, each and no more.
-fn are(row: &[Element], gap: usize, nodes: &[u8]) -> bool {
+fn are(table: &FollowerTable, gap: usize, nodes: &[u8]) -> bool {
     let mut set = IdSet::empty();
     for id in nodes {
         set = set.with(Some(*id));
     }
-    followers(row, gap) == set
+    table.at(gap) == set
 }
 
 #[test]
 fn a_row_without_blocks_has_its_next_node(rt: HostRuntime) -> Result<(), Fail> {
-    let row = [Element::Activity(7), Element::Activity(63)];
-    assert!(rt; are(&row, 0, &[7]));
-    assert!(rt; are(&row, 1, &[63]));
-    assert!(rt; are(&row, 2, &[]), "the row's end");
-    assert!(rt; are(&row, 3, &[]), "past the end");
-    assert!(rt; are(&row, usize::MAX, &[]));
-    assert!(rt; are(&[], 0, &[]));
+    let table = table_of(rt.alloc(), &[Element::Activity(7), Element::Activity(63)])?;
+    assert!(rt; are(&table, 0, &[7]));
+    assert!(rt; are(&table, 1, &[63]));
+    assert!(rt; are(&table, 2, &[]), "the row's end");
+    assert!(rt; are(&table, 3, &[]), "past the end");
+    assert!(rt; are(&table, usize::MAX, &[]));
+    Ok(())
+}
+
+#[test]
+fn an_empty_row_and_a_high_id_have_none(rt: HostRuntime) -> Result<(), Fail> {
+    assert!(rt; are(&table_of(rt.alloc(), &[])?, 0, &[]));
     assert!(rt;
-        are(&[Element::Activity(64)], 0, &[]),
+        are(&table_of(rt.alloc(), &[Element::Activity(64)])?, 0, &[]),
         "an id that no set has"
     );
     Ok(())
@@ -32,7 +54,7 @@ fn a_row_without_blocks_has_its_next_node(rt: HostRuntime) -> Result<(), Fail> {
 // Activity 1, then 2 beside 3, then 4.
 #[test]
 fn an_and_split_has_the_heads_of_its_branches(rt: HostRuntime) -> Result<(), Fail> {
-    let row = [
+    let elements = [
         Element::Activity(1),
         Element::AndSplit,
         Element::Activity(2),
@@ -41,21 +63,22 @@ fn an_and_split_has_the_heads_of_its_branches(rt: HostRuntime) -> Result<(), Fai
         Element::AndJoin,
         Element::Activity(4),
     ];
-    assert!(rt; are(&row, 0, &[1]));
-    assert!(rt; are(&row, 1, &[2, 3]));
-    assert!(rt; are(&row, 2, &[2]));
-    assert!(rt; are(&row, 3, &[4]), "a bar leads past the join");
-    assert!(rt; are(&row, 4, &[3]));
-    assert!(rt; are(&row, 5, &[4]));
-    assert!(rt; are(&row, 6, &[4]));
-    assert!(rt; are(&row, 7, &[]));
+    let table = table_of(rt.alloc(), &elements)?;
+    assert!(rt; are(&table, 0, &[1]));
+    assert!(rt; are(&table, 1, &[2, 3]));
+    assert!(rt; are(&table, 2, &[2]));
+    assert!(rt; are(&table, 3, &[4]), "a bar leads past the join");
+    assert!(rt; are(&table, 4, &[3]));
+    assert!(rt; are(&table, 5, &[4]));
+    assert!(rt; are(&table, 6, &[4]));
+    assert!(rt; are(&table, 7, &[]));
     Ok(())
 }
 
 // An AND block of an empty branch and activity 1, at the end of a branch beside an empty one; then 2.
 #[test]
 fn an_empty_branch_leads_past_every_join(rt: HostRuntime) -> Result<(), Fail> {
-    let row = [
+    let elements = [
         Element::AndSplit,
         Element::AndSplit,
         Element::Bar,
@@ -65,25 +88,27 @@ fn an_empty_branch_leads_past_every_join(rt: HostRuntime) -> Result<(), Fail> {
         Element::AndJoin,
         Element::Activity(2),
     ];
-    assert!(rt; are(&row, 0, &[1, 2]));
-    assert!(rt; are(&row, 1, &[1, 2]));
-    assert!(rt; are(&row, 2, &[2]), "past both joins");
-    assert!(rt; are(&row, 3, &[1]));
-    assert!(rt; are(&row, 4, &[2]));
-    assert!(rt; are(&row, 5, &[2]));
-    assert!(rt; are(&row, 6, &[2]));
+    let table = table_of(rt.alloc(), &elements)?;
+    assert!(rt; are(&table, 0, &[1, 2]));
+    assert!(rt; are(&table, 1, &[1, 2]));
+    assert!(rt; are(&table, 2, &[2]), "past both joins");
+    assert!(rt; are(&table, 3, &[1]));
+    assert!(rt; are(&table, 4, &[2]));
+    assert!(rt; are(&table, 5, &[2]));
+    assert!(rt; are(&table, 6, &[2]));
+    let shorter = table_of(rt.alloc(), &elements[..7])?;
     assert!(rt;
-        are(&row[..7], 0, &[1]),
+        are(&shorter, 0, &[1]),
         "and where the row ends behind them"
     );
-    assert!(rt; are(&row[..7], 2, &[]));
+    assert!(rt; are(&shorter, 2, &[]));
     Ok(())
 }
 
 // An empty loop of test 8, then one of activity 1 and test 9, then 2.
 #[test]
 fn a_loop_ends_at_its_test(rt: HostRuntime) -> Result<(), Fail> {
-    let row = [
+    let elements = [
         Element::LoopStart,
         Element::LoopEnd(8),
         Element::LoopStart,
@@ -91,19 +116,20 @@ fn a_loop_ends_at_its_test(rt: HostRuntime) -> Result<(), Fail> {
         Element::LoopEnd(9),
         Element::Activity(2),
     ];
-    assert!(rt; are(&row, 0, &[8]), "an empty loop has its test");
-    assert!(rt; are(&row, 1, &[8]));
-    assert!(rt; are(&row, 2, &[1]));
-    assert!(rt; are(&row, 3, &[1]));
-    assert!(rt; are(&row, 4, &[9]));
-    assert!(rt; are(&row, 5, &[2]));
+    let table = table_of(rt.alloc(), &elements)?;
+    assert!(rt; are(&table, 0, &[8]), "an empty loop has its test");
+    assert!(rt; are(&table, 1, &[8]));
+    assert!(rt; are(&table, 2, &[1]));
+    assert!(rt; are(&table, 3, &[1]));
+    assert!(rt; are(&table, 4, &[9]));
+    assert!(rt; are(&table, 5, &[2]));
     Ok(())
 }
 
 // Decision 5 of activities 6 and 7, then 8. Facts are not asked: the end of a branch leads on, whichever was decided.
 #[test]
 fn an_xor_split_has_its_decision_alone(rt: HostRuntime) -> Result<(), Fail> {
-    let row = [
+    let elements = [
         Element::XorSplit(5),
         Element::Activity(6),
         Element::Bar,
@@ -111,17 +137,14 @@ fn an_xor_split_has_its_decision_alone(rt: HostRuntime) -> Result<(), Fail> {
         Element::XorJoin,
         Element::Activity(8),
     ];
-    assert!(rt; are(&row, 0, &[5]));
-    assert!(rt; are(&row, 1, &[6]));
-    assert!(rt; are(&row, 2, &[8]));
-    assert!(rt; are(&row, 3, &[7]));
-    assert!(rt; are(&row, 4, &[8]));
-    assert!(rt; are(&row, 5, &[8]));
+    let table = table_of(rt.alloc(), &elements)?;
+    assert!(rt; are(&table, 0, &[5]));
+    assert!(rt; are(&table, 1, &[6]));
+    assert!(rt; are(&table, 2, &[8]));
+    assert!(rt; are(&table, 3, &[7]));
+    assert!(rt; are(&table, 4, &[8]));
+    assert!(rt; are(&table, 5, &[8]));
     Ok(())
-}
-
-fn push(row: &mut Row, element: Element) -> Result<(), Fail> {
-    row.push(element).map_err(|_| Fail::new("the row is full"))
 }
 
 // Fourteen AND blocks of eight empty branches each, and activity 3 behind them.
@@ -135,18 +158,20 @@ fn empty_branches_are_passed_once(rt: HostRuntime) -> Result<(), Fail> {
         }
         push(&mut row, Element::AndJoin)?;
     }
-    assert!(rt; are(row.as_slice(), 0, &[]));
+    assert!(rt; are(&FollowerTable::of(&row), 0, &[]));
     push(&mut row, Element::Activity(3))?;
-    assert!(rt; are(row.as_slice(), 0, &[3]));
-    assert!(rt; are(row.as_slice(), 4, &[3]));
-    assert!(rt; are(row.as_slice(), 126, &[3]));
+    let table = FollowerTable::of(&row);
+    assert!(rt; are(&table, 0, &[3]));
+    assert!(rt; are(&table, 4, &[3]));
+    assert!(rt; are(&table, 126, &[3]));
     Ok(())
 }
 
 #[test]
 fn a_row_that_is_not_nested_has_followers(rt: HostRuntime) -> Result<(), Fail> {
-    let row = [Element::Bar, Element::AndSplit, Element::Activity(1)];
-    assert!(rt; are(&row, 0, &[1]));
-    assert!(rt; are(&row, 2, &[1]));
+    let elements = [Element::Bar, Element::AndSplit, Element::Activity(1)];
+    let table = table_of(rt.alloc(), &elements)?;
+    assert!(rt; are(&table, 0, &[1]));
+    assert!(rt; are(&table, 2, &[1]));
     Ok(())
 }
