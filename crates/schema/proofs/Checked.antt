@@ -1,5 +1,5 @@
 -- What a schema's own fields tell of its row. Assumes nothing.
-use Rattle.std.proofs.Common.{◌≡◌, ℕ, true, false, List, [], ◌∷◌, Ok, Some, None, Option, refl, ap, inl, inr, arith}
+use Rattle.std.proofs.Common.{◌≡◌, ℕ, ◌≤◌, true, List, [], ◌∷◌, length, Ok, Some, None, Option, refl, ap, inl, inr, arith}
 use Rattle.std.proofs.lemmas.Bool.{and_parts, not-true}
 use mathlib.Core.Logic.{∥∥₁_elim}
 use base.Stored.{Coded, Coded-set, coded_ℕ, coded_list, coded_via, coded×}
@@ -18,6 +18,8 @@ use Rattle.edges.specs.Verdicts.{edges_verdict}
 use Rattle.layout.specs.declared.Layout.{Layout}
 use Rattle.layout.specs.declared.Position.{Position}
 use Rattle.layout.specs.Pass.{LayoutOf}
+use Rattle.followers.specs.declared.FollowerTable.{FollowerTable}
+use Rattle.followers.specs.Tables.{FollowersOf}
 use Rattle.schema.specs.declared.schema.Schema.{Schema}
 use Rattle.schema.specs.Schemas.{parts}
 use Rattle.schema.specs.Checks.{low_id, distinct, passes, Admitted}
@@ -60,6 +62,9 @@ laid xs l h = record {
   ends = ∥∥₁_elim h (Coded-set (coded_list coded_option) _ _) (λ is. is.ends);
 }
 
+pub followed : (xs : List Element) (t : FollowerTable) → ∥ FollowersOf xs t ∥₁ → FollowersOf xs t
+followed xs t h = record { each = λ g. ∥∥₁_elim h (Coded-set coded_ids _ _) (λ is. is.each g) }
+
 pub distinct_fine : (xs : List Element) → distinct xs ≡ true → Fine xs
 distinct_fine [] e = (tt, λ u a. elim a [ ])
 distinct_fine (x ∷ xs) e =
@@ -85,8 +90,9 @@ module _ (row : List Element) (es : List Edge) (e : passes row es ≡ true) wher
   pub checked_nested : Nested row
   checked_nested = tells_ok row no_fault
 
+pub laid_few : (xs : List Element) (l : Layout) → ∥ LayoutOf xs l ∥₁ → length xs ≤ 128
+laid_few xs l h = let is = laid xs l h in omega (arith, l.few, is.len)
+
 -- a schema passed the checks
 pub schema_checked : (s : Schema) → Admitted (parts s)
-schema_checked s =
-    let l = laid _ s.layout s.laid in
-    record { few = omega (arith, s.layout.few, l.len); few_edges = s.few_edges; passed = s.passed }
+schema_checked s = record { few = laid_few _ s.layout s.laid; few_edges = s.few_edges; passed = s.passed }

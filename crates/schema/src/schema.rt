@@ -1,5 +1,5 @@
 // A schema that passed the checks.
-ghost use Rattle.std.specs.Prelude.{◌≡◌, ◌≤◌, true, length, Decides};
+ghost use Rattle.std.specs.Prelude.{◌≡◌, ◌≤◌, true, length, drop, Decides};
 ghost use Rattle.model.specs.Trees.{Seq, flatten};
 ghost use Rattle.model.specs.Rows.{Precedes};
 ghost use Rattle.edges.specs.Edges.{within};
@@ -8,12 +8,17 @@ ghost use Rattle.edges.specs.Verdicts.{edge_verdict, Judges};
 ghost use Rattle.layout.specs.Gaps.{Positioned, Ended};
 ghost use Rattle.layout.specs.Nodes.{Finds};
 ghost use Rattle.layout.specs.Pass.{LayoutOf};
+ghost use Rattle.followers.specs.Followers.{FollowersAt};
+ghost use Rattle.followers.specs.Backwards.{followers};
+ghost use Rattle.followers.specs.Tables.{FollowersOf};
 ghost use Rattle.schema.specs.Checks.{passes};
 ghost use Rattle.schema.specs.Tables.{place_in, position_in, end_in};
 
 mod checks;
 
 use edges::order::Order;
+use followers::FollowerTable;
+use ids::IdSet;
 use layout::{Layout, Position};
 use model::{Edge, EdgeList, Element, Row};
 
@@ -25,11 +30,13 @@ pub struct Schema {
     edges: EdgeList,
     order: Order,
     layout: Layout,
+    followers: FollowerTable,
     version: u16,
     ghost passed: { passes row edges ≡ true },
     ghost few_edges: { length edges ≤ 32 },
     ghost ordered: { ∥ OrderOf row order ∥₁ },
     ghost laid: { ∥ LayoutOf row layout ∥₁ },
+    ghost followed: { ∥ FollowersOf row followers ∥₁ },
 }
 
 impl Schema {
@@ -93,5 +100,14 @@ impl Schema {
         ensures tree { Ended (parts self.now).row start result }
     {
         self.layout.end(start)
+    }
+
+    // The nodes that come next at this gap; none from the row's end on.
+    #[tactic(auto, using(crate::proofs::Checked::followed, crate::proofs::Checked::laid_few))]
+    pub fn followers(&self, gap: usize) -> IdSet
+        ensures value { result ≡ followers (drop gap (parts self.now).row) }
+        ensures tree { (t : Seq) → (parts self.now).row ≡ flatten t → FollowersAt t gap result }
+    {
+        self.followers.at(gap)
     }
 }

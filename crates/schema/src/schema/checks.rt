@@ -15,6 +15,7 @@ use crate::schema::Schema;
 use crate::space::Space;
 use blocks::check_blocks;
 use edges::order::Order;
+use followers::FollowerTable;
 use layout::Layout;
 use model::refusal::SchemaRefusal;
 use model::{EdgeList, Row};
@@ -29,12 +30,14 @@ fn check_edges(version: u16, row: Row, edges: EdgeList) -> Result<Schema, Schema
 {
     let order = Order::of(&row);
     let layout = Layout::of(&row);
+    let followers = FollowerTable::of(&row);
     order.check(edges.as_slice())?;
     Ok(Schema {
         row,
         edges,
         order,
         layout,
+        followers,
         version,
     })
 }
