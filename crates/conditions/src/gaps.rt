@@ -6,7 +6,6 @@ ghost use Rattle.conditions.specs.Conditions.{least_busy, hindered_at};
 
 use crate::states::has_begun;
 use facts::Facts;
-use followers::followers;
 use ids::IdSet;
 use marking::nearby::signal_at;
 use model::Signal;
@@ -41,7 +40,7 @@ pub(crate) fn hindered_at(schema: &Schema, facts: &Facts, gap: u8) -> Option<u8>
     ensures { result ≡ hindered_at (parts schema.now) facts.now gap }
 {
     let gap = usize::from(gap);
-    let busy = least_busy(schema, facts, followers(schema.row(), gap))?;
+    let busy = least_busy(schema, facts, schema.followers(gap))?;
     if is_false(signal_at(schema, facts, gap)) {
         None
     } else {

@@ -1,4 +1,3 @@
 pub mod Noting
-pub mod Passes
 pub mod Room
 pub mod TreeFollowers

@@ -1,10 +1,7 @@
 // The followers of every gap of a row: the nodes that come next there. Computed once, in one pass, and with no memory taken.
 #![tactic(auto)]
 
-ghost use Rattle.std.specs.Prelude.{◌≡◌, ◌≤◌, length, drop};
-ghost use Rattle.model.specs.Trees.{Seq, flatten};
-ghost use Rattle.followers.specs.Followers.{FollowersAt};
-ghost use Rattle.followers.specs.Backwards.{followers};
+ghost use Rattle.std.specs.Prelude.{◌≡◌, ◌≤◌, length};
 
 mod blocks;
 #[cfg(test)]
@@ -13,7 +10,7 @@ mod tests;
 use blocks::{Block, moves};
 use bounded::{get_or, put};
 use ids::IdSet;
-use model::{Element, Row};
+use model::Row;
 use stack::Stack;
 
 // A set for each gap of a row, which has at most 128 elements. No model, since `FollowersOf` tells of the sets themselves.
@@ -25,8 +22,11 @@ pub struct FollowerTable {
 }
 
 impl FollowerTable {
-    ghost use Rattle.std.specs.Prelude.{List};
+    ghost use Rattle.std.specs.Prelude.{List, drop};
     ghost use Rattle.model.specs.declared.Element.{Element};
+    ghost use Rattle.model.specs.Trees.{Seq, flatten};
+    ghost use Rattle.followers.specs.Followers.{FollowersAt};
+    ghost use Rattle.followers.specs.Backwards.{followers};
     ghost use Rattle.followers.specs.Tables.{FollowersOf};
 
     // The table of a row, in one pass from its end: if each branch of a block asked anew what comes behind the block, each
@@ -54,19 +54,4 @@ impl FollowerTable {
     {
         get_or(&self.sets, gap, IdSet::empty())
     }
-}
-
-// The followers of a gap of the row, in a pass of its own; none from the row's end on.
-#[tactic(auto, using(crate::proofs::Passes::back_from, crate::proofs::Passes::back_last, crate::proofs::Passes::back_none, crate::proofs::TreeFollowers::followers_at))]
-pub fn followers(row: &[Element], gap: usize) -> IdSet
-    ensures value { result ≡ followers (drop gap row.now) }
-    ensures tree { (t : Seq) → length row.now ≤ 128 → row.now ≡ flatten t → FollowersAt t gap result }
-{
-    let mut here = IdSet::empty();
-    let mut around = Stack::new(Block::ending(here));
-    for element in row[gap.min(row.len())..].iter().rev() {
-        let next = moves(*element, here, around.top());
-        here = around.follow(next);
-    }
-    here
 }
