@@ -1,4 +1,4 @@
--- The signal of a gap, by what stands before it. Assumes nothing.
+-- The signal of a gap, by what stands before it: a node, the head of a branch, or a whole block. Assumes nothing.
 use Rattle.std.proofs.Common.{◌≡◌, ℕ, ◌+◌, ◌<◌, ◌≤◌, ◌⊎◌, Bool, true, cond, List, [], ◌∷◌, length, get_or, Some, Option, sym, refl, ap, ◌∙◌, subst, inl, inr, arith}
 use Rattle.std.proofs.lemmas.List.{get_or_past}
 use Rattle.std.specs.declared.option.Option.TheVariants as option

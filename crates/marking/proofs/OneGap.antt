@@ -1,4 +1,4 @@
--- The signal of a gap, from what stands before it. Assumes nothing.
+-- The signal of a gap against an earlier one's: an element on, in a block, behind a bar, behind a block. Assumes nothing.
 use Rattle.std.proofs.Common.{◌≡◌, ℕ, ◌+◌, ◌-◌, ◌<◌, false, List, [], ◌∷◌, ◌++◌, length, get_or, take, drop, sym, refl, ap, ◌∙◌, subst, arith, append_assoc, length-append}
 use Rattle.std.proofs.lemmas.List.{take_at, take_more, drop_at, length-take-le, take-append-drop}
 use Rattle.std.specs.List.{slice_range}
@@ -6,20 +6,21 @@ use Rattle.model.specs.declared.Element.{Element}
 use Rattle.model.specs.declared.Element.TheVariants.{Activity, AndSplit, Bar, AndJoin, XorSplit, XorJoin, LoopStart, LoopEnd}
 use Rattle.model.specs.declared.Fact.{Fact}
 use Rattle.model.specs.declared.Signal.{Signal}
-use Rattle.model.specs.declared.Signal.TheVariants.{True, None}
+use Rattle.model.specs.declared.Signal.TheVariants.{True}
 use Rattle.marking.specs.declared.signals.Opened.{Opened}
 use Rattle.marking.specs.declared.signals.Opened.TheVariants.{And, Xor}
 use Rattle.model.specs.Trees.{Seq, spell_item, spell_branches, flatten}
 use Rattle.model.specs.Signals.{fact_of, is_false, decided, after}
 use Rattle.layout.specs.Gaps.{Whole, Within, Ends}
 use Rattle.layout.proofs.Facts.{spell_append, spell_append_item, spell_append_branches, within_opener, loop_first}
-use Rattle.marking.specs.Machine.{chosen, turned, Gap, gap, step, start, signals, reach}
+use Rattle.marking.specs.Machine.{chosen, turned, Gap, gap, step, start, reach}
+use Rattle.marking.specs.Nearby.{signal_in, alone}
 use Rattle.marking.proofs.TreeSignals.{choice_at, head_at}
 use Rattle.marking.proofs.FalseBlocks.{ends_false, after_false}
 use Rattle.marking.proofs.Reaches.{reach_append, signal_reached, past_seq, past_item, current, headed, Top, Open, opens}
 
 module _ (fs : List Fact) where
-  -- behind the first branch of a block the signal is false exactly if it is at the branch's head
+  -- in a branch the signal is false exactly if it is at the branch's head
   open_false : (x : Element) (n : ℕ) (o h : Gap) (u : Seq) → Open fs x n o u h → is_false h.signal ≡ is_false (headed fs x n o.signal)
   open_false x n o h u w = ap is_false w.signal ∙ ends_false fs u (headed fs x n o.signal)
 
@@ -43,13 +44,13 @@ module _ (fs : List Fact) where
   bar_head (LoopEnd i) n o g s t split = elim t [ ]
 
   module _ (xs : List Element) where
-    abbrev pub at : ℕ → Signal
-    at p = get_or (signals fs start xs) p None
+    abbrev at : ℕ → Signal
+    at p = signal_in xs fs p
 
     at_front : (us ys : List Element) (p : ℕ) → xs ≡ us ++ ys → length us ≡ p → at p ≡ (reach fs start us).signal
     at_front us ys p parted long =
-        ap (λ zs. get_or (signals fs start zs) p None) parted
-        ∙ ap (λ n. get_or (signals fs start (us ++ ys)) n None) (sym long) ∙ signal_reached fs us ys start
+        ap (λ zs. signal_in zs fs p) parted
+        ∙ ap (signal_in (us ++ ys) fs) (sym long) ∙ signal_reached fs us ys start
 
     pub at_start : at 0 ≡ True
     at_start = at_front [] xs 0 refl refl
@@ -125,9 +126,6 @@ module _ (fs : List Fact) where
         ∙ head_is w z
 
     -- behind the end of a block it is what the block alone makes of that before it
-    abbrev pub alone : List Element → Signal → Signal
-    alone ys g = (reach fs (gap g []) ys).signal
-
     module _ {s p : ℕ} (z : Ends xs s p) where
       block_is : slice_range xs s (p + 1) ≡ spell_item z.item.item []
       block_is =
@@ -138,13 +136,13 @@ module _ (fs : List Fact) where
           let m = length-append (spell_item i.item []) i.after in
           ap (take (p + 1 - s)) rest ∙ take_at (spell_item i.item []) i.after (p + 1 - s) (omega (arith, n, m, i.at_start, i.at_end))
 
-      alone_after : (g : Signal) → alone (slice_range xs s (p + 1)) g ≡ after fs z.item.item g
-      alone_after g = ap (λ ys. alone ys g) block_is ∙ ap (λ h. h.signal) (past_item fs z.item.item g [] [])
+      alone_after : (g : Signal) → alone fs (slice_range xs s (p + 1)) g ≡ after fs z.item.item g
+      alone_after g = ap (λ ys. alone fs ys g) block_is ∙ ap (λ h. h.signal) (past_item fs z.item.item g [] [])
 
-      pub alone_false : (g : Signal) → is_false (alone (slice_range xs s (p + 1)) g) ≡ is_false g
+      pub alone_false : (g : Signal) → is_false (alone fs (slice_range xs s (p + 1)) g) ≡ is_false g
       alone_false g = ap is_false (alone_after g) ∙ after_false fs z.item.item g
 
-      pub block_signal : at (p + 1) ≡ alone (slice_range xs s (p + 1)) (at s)
+      pub block_signal : at (p + 1) ≡ alone fs (slice_range xs s (p + 1)) (at s)
       block_signal =
           let i = z.item in
           let us = i.before ++ spell_item i.item [] in
