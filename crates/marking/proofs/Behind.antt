@@ -59,10 +59,11 @@ steady f keeps v none all False = only (f False) (keeps False)
     only False e = refl
     only None e = absurd cc
 
-abbrev node_by : Fact → Bool → Signal
-node_by f k = cond k False (cond (is_done f) True None)
-
 module _ (fs : List Fact) where
+  -- behind node i, where its place is dead or not
+  abbrev node_by : ℕ → Bool → Signal
+  node_by i k = cond k False (cond (is_done (fact_of fs i)) True None)
+
   -- behind an element that begins a block, its first branch does
   first_head : (x : Element) → Begins x → (o : Gap) → (step fs x o).signal ≡ headed fs x 0 o.signal
   first_head (Activity i) b o = elim b [ ]
@@ -85,13 +86,14 @@ module _ (xs : List Element) (fs : List Fact) (p gap : ℕ) (one : gap ≡ p + 1
       → signal_in xs fs gap ≡ cond (dead xs fs p) False (cond (is_done (fact_of fs i)) True None)
   node_signal i e = ap (signal_in xs fs) one ∙ go (said (Node i) e)
     where
-      behind : (x : Element) → here ≡ x → gap_of x p ≡ p → ((o : Gap) → (step fs x o).signal ≡ node_by (fact_of fs i) (is_false o.signal)) → signal_in xs fs (p + 1) ≡ node_by (fact_of fs i) (dead xs fs p)
+      behind : (x : Element) → here ≡ x → gap_of x p ≡ p → ((o : Gap) → (step fs x o).signal ≡ node_by fs i (is_false o.signal))
+          → signal_in xs fs (p + 1) ≡ node_by fs i (dead xs fs p)
       behind x is plain steps =
           let r = at_next fs xs p told.0 in
-          r.2 ∙ ap (λ y. (step fs y r.0).signal) is ∙ steps r.0 ∙ ap (λ g. node_by (fact_of fs i) (is_false g)) r.1
-          ∙ ap (λ k. node_by (fact_of fs i) (is_false (signal_in xs fs k))) (sym (ap (λ y. gap_of y p) is ∙ plain))
+          r.2 ∙ ap (λ y. (step fs y r.0).signal) is ∙ steps r.0 ∙ ap (λ g. node_by fs i (is_false g)) r.1
+          ∙ ap (λ k. node_by fs i (is_false (signal_in xs fs k))) (sym (ap (λ y. gap_of y p) is ∙ plain))
 
-      go : (here ≡ Activity i) ⊎ (here ≡ LoopEnd i) → signal_in xs fs (p + 1) ≡ node_by (fact_of fs i) (dead xs fs p)
+      go : (here ≡ Activity i) ⊎ (here ≡ LoopEnd i) → signal_in xs fs (p + 1) ≡ node_by fs i (dead xs fs p)
       go (inl is) = behind (Activity i) is refl (λ o. refl)
       go (inr is) = behind (LoopEnd i) is refl (λ o. refl)
 

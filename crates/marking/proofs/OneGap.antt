@@ -116,7 +116,8 @@ module _ (fs : List Fact) where
         let us = take p xs in
         let k = reach fs start us in
         let more : take (p + 1) xs ≡ us ++ Bar ∷ [] = take_more xs p AndSplit less ∙ ap (λ x. us ++ x ∷ []) is in
-        let same : front w z ≡ us ++ Bar ∷ [] = sym (take_at (front w z) w.after (p + 1) (front_long w z)) ∙ ap (take (p + 1)) (sym (parted_front w z)) ∙ more in
+        let same : front w z ≡ us ++ Bar ∷ [] =
+        sym (take_at (front w z) w.after (p + 1) (front_long w z)) ∙ ap (take (p + 1)) (sym (parted_front w z)) ∙ more in
         let reached : reach fs start (front w z) ≡ step fs Bar k = ap (reach fs start) same ∙ reach_append fs us (Bar ∷ []) start in
         let o = reach fs start w.before in
         at_front (front w z) w.after (p + 1) (parted_front w z) (front_long w z)
