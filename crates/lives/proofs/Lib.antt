@@ -1,3 +1,4 @@
 pub mod Entering
 pub mod Moving
 pub mod Keeping
+pub mod Offering

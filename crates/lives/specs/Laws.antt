@@ -3,12 +3,13 @@
 --   MovesLand            what a move leaves
 --   MovesHaveCause       each answer to a move has its cause and no other
 --   LivesKeepTheirPromises   these and all else that every life keeps
+--   OffersMayBeStarted   exactly those activities are offered that may be started
 use Rattle.std.specs.Prelude.{◌≡◌, ℕ, ◌<◌, ◌≤◌, ◌↔◌, true, false, List, [], ◌∷◌, ◌++◌, length, Ok, Err}
 use Rattle.model.specs.declared.Entry.{Entry}
-use Rattle.model.specs.declared.Entry.TheVariants.{Leave}
+use Rattle.model.specs.declared.Entry.TheVariants.{Start, Leave}
 use Rattle.model.specs.declared.Fact.{Fact}
 use Rattle.model.specs.Signals.{fact_of, decided}
-use Rattle.schema.specs.Checks.{SchemaParts}
+use Rattle.schema.specs.Checks.{SchemaParts, Admitted}
 use Rattle.case_record.specs.CaseRecords.{RawCase}
 use Rattle.case_record.specs.Laws.{LineOf}
 use Rattle.marking.specs.States.{state_in, finished_in}
@@ -114,3 +115,8 @@ LivesKeepTheirPromises =
     (cost : ℕ) (H : List Entry) (v : CaseView) → Life cost H v
     → HistoryRuns H v × InStep H v × MovesAreReplays H v × MovesLand H v × MovesHaveCause H v
     × StepsHaveCause H v × AgainsHaveCause cost v × LoadsHaveCause v
+
+-- Of a schema that passed the checks, whatever the facts, exactly those activities are offered that may be started.
+abbrev pub OffersMayBeStarted : Type 0
+OffersMayBeStarted =
+    (S : SchemaParts) (fs : List Fact) (id : ℕ) → Admitted S → (offers S fs id ≡ true) ↔ Allowed S fs (Start id)

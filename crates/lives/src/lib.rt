@@ -4,7 +4,7 @@
 ghost use Rattle.std.specs.Prelude.{◌≡◌, None};
 ghost use Rattle.model.specs.Refusals.{reason};
 ghost use Rattle.lives.specs.declared.CallRefusal.TheVariants.{Case};
-ghost use Rattle.lives.specs.Laws.{LivesKeepTheirPromises};
+ghost use Rattle.lives.specs.Laws.{LivesKeepTheirPromises, OffersMayBeStarted};
 ghost use Rattle.lives.specs.Refusals.{call_reason};
 
 use model::refusal::{CaseRefusal, Reason};
@@ -83,4 +83,9 @@ impl Error for CallRefusal {}
 #[tactic(auto, using(crate::proofs::Keeping::promises_kept))]
 pub fn lives_keep_their_promises()
     ensures { LivesKeepTheirPromises }
+{}
+
+#[tactic(auto, using(crate::proofs::Offering::may_be_started))]
+pub fn offers_may_be_started()
+    ensures { OffersMayBeStarted }
 {}
