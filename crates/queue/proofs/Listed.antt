@@ -1,5 +1,6 @@
 -- Which ids are in a list, and in one with an id offered or withdrawn. Assumes nothing.
-use Rattle.std.proofs.Common.{◌≡◌, ℕ, ◌<◌, Bool, false, not, ◌&&◌, ◌||◌, eqb, List, [], ◌∷◌, ◌++◌, filter, refl, arith}
+use Rattle.std.proofs.Common.{◌≡◌, ℕ, ◌+◌, ◌<◌, Bool, false, not, ◌&&◌, ◌||◌, eqb, List, [], ◌∷◌, ◌++◌, length, get_or, take, filter, refl, ap, ◌∙◌, arith}
+use Rattle.std.proofs.lemmas.List.{take_more}
 use mathlib.Core.Path.{fun_ext}
 use Rattle.std.specs.List.{IsAnyAnswer}
 use Rattle.std.proofs.lemmas.List.Elements.{contains_decides}
@@ -15,6 +16,10 @@ listed_contains xs id r h =
 pub listed_append : (xs ys : List ℕ) (i : ℕ) → listed (xs ++ ys) i ≡ (listed xs i || listed ys i)
 listed_append [] ys i = refl
 listed_append (x ∷ xs) ys i = grind (arith, listed_append xs ys i)
+
+-- one more from the front
+pub listed_more : (xs : List ℕ) (n i : ℕ) → n < length xs → listed (take (n + 1) xs) i ≡ (listed (take n xs) i || eqb (get_or xs n 0) i)
+listed_more xs n i less = ap (λ ys. listed ys i) (take_more xs n 0 less) ∙ listed_append (take n xs) (get_or xs n 0 ∷ []) i ∙ grind arith
 
 pub listed_kept : (p : ℕ → Bool) (xs : List ℕ) (i : ℕ) → listed (filter p xs) i ≡ (listed xs i && p i)
 listed_kept p [] i = refl

@@ -10,6 +10,7 @@ mod step;
 mod tests;
 
 use arrayvec::ArrayVec;
+use ids::IdSet;
 pub use step::bring_queue_in_step;
 use worklist::Worklist;
 
@@ -89,5 +90,13 @@ impl Worklist for Queue {
     #[tactic(auto, using(crate::proofs::Once::count_once))]
     fn count(&self) -> usize {
         self.ids.len()
+    }
+
+    fn ids(&self) -> IdSet {
+        let mut ids = IdSet::empty();
+        for id in self.as_slice() {
+            ids = ids.with(Some(*id));
+        }
+        ids
     }
 }

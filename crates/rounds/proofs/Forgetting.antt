@@ -28,4 +28,4 @@ module _ (P : ℕ → Bool) where
       go false h = ap (λ l. e ∷ l) h
 
 pub round_forgotten : ARoundIsForgotten
-round_forgotten P fs es = record { facts = λ id. facts_from P 0 fs id; entries = entries_left P es }
+round_forgotten P fs es = record { facts = λ id. facts_from P 0 fs id ∙ ap (λ m. cond (P m) Nothing (get_or fs id Nothing)) (omega arith); entries = entries_left P es }

@@ -11,7 +11,6 @@ pub fn a_finished_round_can_be_dropped()
     ensures { AFinishedRoundCanBeDropped }
 {}
 
-#[tactic(auto, using(crate::proofs::Forgetting::round_forgotten))]
 pub fn a_round_is_forgotten()
     ensures { ARoundIsForgotten }
 {}

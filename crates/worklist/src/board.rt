@@ -56,4 +56,8 @@ impl Worklist for Board {
     fn count(&self) -> usize {
         self.marks.len()
     }
+
+    fn ids(&self) -> IdSet {
+        self.marks
+    }
 }

@@ -3,6 +3,7 @@
 
 ghost use Rattle.std.specs.Prelude.{◌≡◌, ℕ, ◌≤◌, Bool, false};
 ghost use Rattle.ids.specs.Counts.{how_many};
+ghost use Rattle.ids.specs.Sets.{has};
 ghost use Rattle.worklist.specs.Offers.{none_offered, with_id, without_id};
 
 mod board;
@@ -11,6 +12,7 @@ mod step;
 mod tests;
 
 pub use board::Board;
+use ids::IdSet;
 pub use step::bring_in_step;
 
 // A set of ids 0 to 63 that are on offer. Nothing refuses, and a question changes nothing.
@@ -43,4 +45,8 @@ pub trait Worklist {
 
     fn count(&self) -> usize
         ensures { result ≡ how_many (offered self.now) };
+
+    // The ids on offer, as a set.
+    fn ids(&self) -> IdSet
+        ensures { (id : ℕ) → has result id ≡ offered self.now id };
 }

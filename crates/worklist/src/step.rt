@@ -7,14 +7,20 @@ ghost use Rattle.worklist.specs.Offers.{in_step_at};
 use crate::Worklist;
 use ids::IdSet;
 
-// Offers what is wanted and not in, withdraws what is in and not wanted, and leaves the rest alone.
+// Offers what is wanted and not in, withdraws what is in and not wanted, and leaves the rest alone, from the least id on.
 pub fn bring_in_step<W: Worklist>(worklist: &mut W, wanted: IdSet)
     ensures after { W.offered worklist.new ≡ has wanted }
     ensures difference { ByDifference W.offered W.offering W.withdrawing (has wanted) 64 worklist.old worklist.new }
 {
-    // over all ids: a worklist has no items to go over
-    for id in 0..64 {
+    let offered = worklist.ids();
+    // those that differ
+    let mut rest = offered.difference(wanted).union(wanted.difference(offered));
+    for _ in 0..64u8 {
+        let Some(id) = rest.least() else {
+            return;
+        };
         bring_id_in_step(worklist, wanted, id);
+        rest = rest.difference(IdSet::only(id));
     }
 }
 
