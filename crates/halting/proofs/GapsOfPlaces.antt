@@ -7,7 +7,7 @@ use Rattle.model.specs.Trees.{Seq, nil, cons, Item, activity, loop, and, xor, Br
 use Rattle.model.specs.Signals.{fact_of, is_false, decided, head_of, ends, after, gaps, gaps_item, gaps_and, gaps_xor}
 use Rattle.followers.specs.Followers.{Nodes, none, just, follows, seq_followers, item_followers, branch_followers}
 use Rattle.changes.specs.Changed.{followed_by}
-use Rattle.halting.proofs.Places.{Place, front, skip, inside, ItemPlace, body, and_branch, xor_branch, BranchPlace, final, leading, beyond, filled_in, filled_item, filled_branches, size, size_item, size_branches, number, item_number, branch_number, signal_in, item_signal, branch_signal, behind, behind_item, behind_branches}
+use Rattle.halting.proofs.Places.{Place, front, skip, inside, ItemPlace, body, and_branch, xor_branch, BranchPlace, final, leading, beyond, filled_in, filled_item, filled_branches, size, size_item, size_branches, number, item_number, branch_number, place_signal, item_signal, branch_signal, behind, behind_item, behind_branches}
 
 module _ {A : Type 0} (d : A) where
   at_number : (us : List A) (n m : ℕ) → n ≡ m → get_or us n d ≡ get_or us m d
@@ -53,7 +53,7 @@ module _ (fs : List Fact) where
   -- a gap of what stands at a place
   module _ (x : Seq) (k : ℕ) (mid : Signal → Signal) (there : (g : Signal) (us : List Signal) → at (gaps fs x g (ends fs x g ∷ us)) k ≡ mid g) where
     mutual
-      pub signal_there : (C : Place) (g : Signal) (us : List Signal) → at (gaps fs (filled_in C x) g (ends fs (filled_in C x) g ∷ us)) (number C + k) ≡ mid (signal_in fs C g)
+      pub signal_there : (C : Place) (g : Signal) (us : List Signal) → at (gaps fs (filled_in C x) g (ends fs (filled_in C x) g ∷ us)) (number C + k) ≡ mid (place_signal fs C g)
       signal_there front g us = at_number None (gaps fs x g (ends fs x g ∷ us)) (0 + k) k (omega arith) ∙ there g us
       signal_there (skip z C) g us =
           let vs = ends fs (filled_in C x) (after fs z g) ∷ us in

@@ -23,7 +23,7 @@ use Rattle.halting.specs.Halts.{Halts, TrueWithFacts}
 use Rattle.halting.proofs.StoppedSequences.{passable, within}
 use Rattle.halting.proofs.OwnSignals.{own_of, own_tree}
 use Rattle.halting.proofs.HaltedSignals.{Halted}
-use Rattle.halting.proofs.Places.{Place, filled_in, number, signal_in, next_in, next_last}
+use Rattle.halting.proofs.Places.{Place, filled_in, number, place_signal, next_in, next_last}
 use Rattle.halting.proofs.GapsOfPlaces.{signal_there, followers_there}
 use Rattle.halting.proofs.HaltedPlaces.{Halting, place_own}
 use Rattle.halting.proofs.SilentPlaces.{live, place_stands}
@@ -54,7 +54,7 @@ module _ (fs : List Fact) (a : ℕ) (x y rest : Seq) (mid : Signal → Signal) (
   abbrev f : ℕ → Bool
   f = next_in C (passable rest) (within rest)
 
-  here_signal : signal_in xs fs (number C + k) ≡ mid (signal_in fs C True)
+  here_signal : signal_in xs fs (number C + k) ≡ mid (place_signal fs C True)
   here_signal = ap (λ us. get_or us (number C + k) None) (row_signals fs xs (filled_in C x) was) ∙ signal_there fs x k mid sig C True []
 
   here_followers : (i : ℕ) → is_follower xs (number C + k) i ≡ (ltb i 64 && f i)
@@ -69,7 +69,7 @@ module _ (fs : List Fact) (a : ℕ) (x y rest : Seq) (mid : Signal → Signal) (
   new_own = row_own fs ys (filled_in C y) is
 
   abbrev On : Type 0
-  On = is_true (mid (signal_in fs C True)) ≡ true
+  On = is_true (mid (place_signal fs C True)) ≡ true
 
   own_here : (i : ℕ) → (i ≡ a → ⊥) → Halted On (f i) (own_in xs fs i) (own_in ys fs i)
   own_here i old =
@@ -89,7 +89,7 @@ module _ (fs : List Fact) (a : ℕ) (x y rest : Seq) (mid : Signal → Signal) (
         ];
         stopped = λ w on i e.
             let l = live fs x C True [] (ends fs (filled_in C x) True ∷ []) (row_sure fs xs (filled_in C x) was unique w)
-            (sym (H.as_false (signal_in fs C True)) ∙ sym (ap is_false here_signal) ∙ on) in
+            (sym (H.as_false (place_signal fs C True)) ∙ sym (ap is_false here_signal) ∙ on) in
             let q = and_parts (ltb i 64) (f i) (sym (here_followers i) ∙ e) in
             row_stands fs ys (filled_in C y) is i None again (place_stands fs a x y rest mid H i C True [] (ends fs (filled_in C y) True ∷ []) l q.1);
       }

@@ -1,7 +1,7 @@
 -- Places of a tree, its gaps, and what changes there. Assumes nothing.
 --   filled_in C r       the tree that has sequence r at place C
 --   number C            how many elements stand before it
---   signal_in fs C g    the signal there, where the tree begins with g
+--   place_signal fs C g    the signal there, where the tree begins with g
 --   behind C rest       the followers behind what stands there, where rest are those behind the tree
 --   open_behind C p     some way from there on through the tree meets no node, where p says so of what stands there
 --   next_in C p f       the tree's followers of the place, where f are those of what stands there
@@ -167,20 +167,20 @@ module _ (R : Seq → Seq → Type 0) where
         record { place = beyond t s.place; old = s.old; new = s.new; changed = s.changed; was = ap (bar t) s.was; is = ap (bar t) s.is; at_gap = omega arith }
 
 abbrev mutual
-  pub signal_in : List Fact → Place → Signal → Signal
-  signal_in fs front g = g
-  signal_in fs (skip x C) g = signal_in fs C (after fs x g)
-  signal_in fs (inside X t) g = item_signal fs X g
+  pub place_signal : List Fact → Place → Signal → Signal
+  place_signal fs front g = g
+  place_signal fs (skip x C) g = place_signal fs C (after fs x g)
+  place_signal fs (inside X t) g = item_signal fs X g
 
   pub item_signal : List Fact → ItemPlace → Signal → Signal
-  item_signal fs (body C i) g = signal_in fs C g
+  item_signal fs (body C i) g = place_signal fs C g
   item_signal fs (and_branch B) g = branch_signal fs B (λ n. g) 0
   item_signal fs (xor_branch i B) g = branch_signal fs B (heads fs g i) 0
 
   -- branch n begins with h n
   pub branch_signal : List Fact → BranchPlace → (ℕ → Signal) → ℕ → Signal
-  branch_signal fs (final C) h n = signal_in fs C (h n)
-  branch_signal fs (leading C b) h n = signal_in fs C (h n)
+  branch_signal fs (final C) h n = place_signal fs C (h n)
+  branch_signal fs (leading C b) h n = place_signal fs C (h n)
   branch_signal fs (beyond t B) h n = branch_signal fs B h (n + 1)
 
 abbrev mutual

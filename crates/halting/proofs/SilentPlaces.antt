@@ -18,7 +18,7 @@ use Rattle.agreement.proofs.Deciders.{Sure}
 use Rattle.halting.proofs.StoppedSequences.{passable, within}
 use Rattle.halting.proofs.OwnSignals.{heads}
 use Rattle.halting.proofs.SilentFollowers.{quiet_ends, silent}
-use Rattle.halting.proofs.Places.{Place, front, skip, inside, ItemPlace, body, and_branch, xor_branch, BranchPlace, final, leading, beyond, filled_in, filled_item, filled_branches, signal_in, item_signal, branch_signal, open_behind, open_item, open_branches, next_in, next_item, next_branches}
+use Rattle.halting.proofs.Places.{Place, front, skip, inside, ItemPlace, body, and_branch, xor_branch, BranchPlace, final, leading, beyond, filled_in, filled_item, filled_branches, place_signal, item_signal, branch_signal, open_behind, open_item, open_branches, next_in, next_item, next_branches}
 use Rattle.halting.proofs.HaltedPlaces.{Halting}
 
 -- the branch that the place is in, where the first one is branch n
@@ -74,7 +74,7 @@ module _ (fs : List Fact) where
   -- where nodes with facts have true signals, the way to a place that is not false is so
   mutual
     pub live : (r : Seq) (C : Place) (g : Signal) (ys : List Element) (us : List Signal) → Sure fs (spell (filled_in C r) ys) (gaps fs (filled_in C r) g us)
-        → is_false (signal_in fs C g) ≡ false → Live C g
+        → is_false (place_signal fs C g) ≡ false → Live C g
     live r front g ys us s e = e
     live r (skip x C) g ys us s e = live r C (after fs x g) ys us (λ j v h. s j v (past_item fs j v x g (spell (filled_in C r) ys) _ h)) e
     live r (inside X t) g ys us s e = live_item r X g (spell t ys) (gaps fs t (after fs (filled_item X r) g) us) s e

@@ -10,12 +10,12 @@ use Rattle.std.specs.Char.{is_whitespace, is_not_whitespace}
 use Rattle.std.specs.Str.{NoCharPasses, EmptyOrStartsWithPassing}
 use Rattle.std.specs.Str.Iter.{split_whitespace_rest}
 use Rattle.std.specs.Str.Parse.{ParsesUnsigned}
-use Rattle.record.specs.Lines.{Held, whole_line}
+use Rattle.record.specs.Lines.{HeldLine, whole_line}
 use Rattle.input.specs.declared.words.NoCall.{NoCall}
 use Rattle.input.specs.declared.words.NoCall.TheVariants.{Missing}
 use Rattle.input.specs.declared.words.Words.{Words}
 
-abbrev pub TextOf : Held → List ℕ → Type 0
+abbrev pub TextOf : HeldLine → List ℕ → Type 0
 TextOf h t = (whole_line h ≡ Some t) × IsUtf8 t
 
 abbrev pub left : Words → List ℕ

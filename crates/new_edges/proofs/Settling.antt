@@ -22,8 +22,9 @@ use Rattle.agreement.specs.Growth.{Grown}
 use Rattle.agreement.specs.FalseGaps.{is_other, otherwise, against, decisions_around}
 use Rattle.agreement.proofs.GrowRuns.{ran_first}
 use Rattle.agreement.proofs.Deciders.{Sure, Rights, on_gaps}
+use Rattle.std.specs.Option.{option_or}
 use Rattle.history.specs.declared.EntryKind.TheVariants.{End, Choose}
-use Rattle.conditions.specs.Deciders.{decisions_at, or_else, decided_against}
+use Rattle.conditions.specs.Deciders.{decisions_at, decided_against}
 use Rattle.new_edges.proofs.Climbs.{told}
 use Rattle.new_edges.proofs.Activities.{Standing, entries_of}
 use Rattle.new_edges.proofs.Starts.{with_entry, shows, now}
@@ -50,9 +51,9 @@ none_against gs [] e = refl
 none_against gs (d ∷ ds) e = go (otherwise gs d) refl e (none_against gs ds)
   where
     go : (v : Bool) → otherwise gs d ≡ v → cond v (1 + against gs ds) (against gs ds) ≡ 0 → (against gs ds ≡ 0 → decided_against gs ds ≡ option.None)
-        → or_else (decided_against gs ds) (cond (otherwise gs d) (Some d.0) option.None) ≡ option.None
+        → option_or (decided_against gs ds) (cond (otherwise gs d) (Some d.0) option.None) ≡ option.None
     go true h e rec = absurd (omega arith)
-    go false h e rec = ap (λ o. or_else o (cond (otherwise gs d) (Some d.0) option.None)) (rec e) ∙ ap (λ v. cond v (Some d.0) option.None) h
+    go false h e rec = ap (λ o. option_or o (cond (otherwise gs d) (Some d.0) option.None)) (rec e) ∙ ap (λ v. cond v (Some d.0) option.None) h
 
 -- what decided otherwise earlier is the one that did so later
 pub the_decider : (fs gs : List Fact) (ds : List (ℕ × ℕ)) → ((i : ℕ) → Grown (fact_of fs i) (fact_of gs i)) → 0 < against fs ds → against gs ds ≤ 1
@@ -63,15 +64,15 @@ the_decider fs gs (d ∷ ds) grown some one =
   where
     go : (u v : Bool) → otherwise fs d ≡ u → otherwise gs d ≡ v → 0 < cond u (1 + against fs ds) (against fs ds) → cond v (1 + against gs ds) (against gs ds) ≤ 1
         → (0 < against fs ds → against gs ds ≤ 1 → (i : ℕ) × (decided_against gs ds ≡ Some i) × (shows Choose (fact_of fs i) ≡ true))
-        → (i : ℕ) × (or_else (decided_against gs ds) (cond (otherwise gs d) (Some d.0) option.None) ≡ Some i) × (shows Choose (fact_of fs i) ≡ true)
+        → (i : ℕ) × (option_or (decided_against gs ds) (cond (otherwise gs d) (Some d.0) option.None) ≡ Some i) × (shows Choose (fact_of fs i) ≡ true)
     go true false h k some one rec = absurd (true≢false (sym (otherwise_grown (fact_of fs d.0) (fact_of gs d.0) d.1 (grown d.0) h) ∙ k))
     go true true h k some one rec = (
       d.0,
-      ap (λ o. or_else o (cond (otherwise gs d) (Some d.0) option.None)) (none_against gs ds (omega arith)) ∙ ap (λ v. cond v (Some d.0) option.None) k,
+      ap (λ o. option_or o (cond (otherwise gs d) (Some d.0) option.None)) (none_against gs ds (omega arith)) ∙ ap (λ v. cond v (Some d.0) option.None) k,
       otherwise_shows (fact_of fs d.0) d.1 h,
     )
     go false v h k some one rec =
-        let r = rec some (less v one) in (r.0, ap (λ o. or_else o (cond (otherwise gs d) (Some d.0) option.None)) r.1, r.2)
+        let r = rec some (less v one) in (r.0, ap (λ o. option_or o (cond (otherwise gs d) (Some d.0) option.None)) r.1, r.2)
       where
         less : (v : Bool) → cond v (1 + against gs ds) (against gs ds) ≤ 1 → against gs ds ≤ 1
         less true l = omega arith
@@ -86,7 +87,7 @@ decided_earlier fs gs (d ∷ ds) i e same = go (decided_against gs ds) (otherwis
     more true l = omega arith
     more false l = l
 
-    go : (o : Option ℕ) (v : Bool) → decided_against gs ds ≡ o → otherwise gs d ≡ v → or_else o (cond v (Some d.0) option.None) ≡ Some i
+    go : (o : Option ℕ) (v : Bool) → decided_against gs ds ≡ o → otherwise gs d ≡ v → option_or o (cond v (Some d.0) option.None) ≡ Some i
         → (decided_against gs ds ≡ Some i → 0 < against fs ds) → 0 < cond (otherwise fs d) (1 + against fs ds) (against fs ds)
     go (Some j) v h k e rec = more (otherwise fs d) (rec (h ∙ e))
     go option.None true h k e rec =
