@@ -4,14 +4,13 @@
 
 mod help;
 
-use help::HELP;
-use usage::helped;
 use case::case::Case;
 use case_record::CaseRecord;
 use drafts::draft::Draft;
 use drafts::plan::Plan;
 use entry_log::{Log, LogRecord};
 use facts::Facts;
+use help::HELP;
 use input::next_line;
 use judging::batch::Batch;
 use lives::CallRefusal;
@@ -24,6 +23,7 @@ use schema::schema::Schema;
 use schema::space::Space;
 use std::alloc::{AllocError, Global};
 use std::io::{BufRead, BufReader, BufWriter, Write};
+use usage::helped;
 use verdicts::Verdict;
 use worklist::Board;
 

@@ -4,16 +4,16 @@
 
 mod help;
 
-use help::HELP;
-use usage::helped;
 use case::case::Case;
 use entry_log::{Log, LogRecord};
+use help::HELP;
 use input::next_line;
 use judging::batch::Batch;
 use model::Entry;
 use record::LineBuffer;
 use schema::schema::Schema;
 use std::io::{BufRead, BufReader, BufWriter, Write};
+use usage::helped;
 use verdicts::Verdict;
 use worklist::Board;
 

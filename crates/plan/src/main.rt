@@ -4,11 +4,10 @@
 
 mod help;
 
-use help::HELP;
-use usage::helped;
 use draft_rules::PlanRefusal;
 use drafts::draft::Draft;
 use drafts::plan::Plan;
+use help::HELP;
 use input::next_line;
 use outline::{Outline, schema_line};
 use record::LineBuffer;
@@ -17,6 +16,7 @@ use schema::space::Space;
 use std::alloc::{AllocError, Global};
 use std::fmt;
 use std::io::{BufReader, BufWriter, Write};
+use usage::helped;
 
 // The plan that a line makes of the schema, or why it makes none.
 fn plan_of(

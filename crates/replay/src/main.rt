@@ -3,10 +3,9 @@
 
 mod help;
 
-use help::HELP;
-use usage::helped;
 use case_record::CaseRecord;
 use facts::Facts;
+use help::HELP;
 use input::next_line;
 use marking::marking::Marking;
 use model::refusal::CaseRefusal;
@@ -18,6 +17,7 @@ use schema::schema::Schema;
 use schema::space::Space;
 use std::fmt;
 use std::io::{BufReader, BufWriter, Write};
+use usage::helped;
 
 // Prints as the ids of the nodes in a state, ascending, with the branch of those that decided one.
 #[derive(Clone, Copy)]

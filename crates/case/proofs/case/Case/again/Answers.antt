@@ -27,4 +27,5 @@ returns g c =
       after = after;
       bounds = λ _. bounds;
       life = λ H l. life_repeated v i w.store.free bounds l after;
+      same = λ r e. absurd cc;
     }

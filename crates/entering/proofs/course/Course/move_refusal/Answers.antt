@@ -10,7 +10,7 @@ returns-then-not-is_of g c =
     let p = planned c.args.plan.now in
     let on = progress_of c.args.self.now in
     let es = (g.S.Store.view c.args.self.now.store).list in
-    sym (by_base p on es c.is_finished.result c.is_of.result (c.is_finished.ensures ∙ c.marking.ensures.finished) c.if-is_finished.false c.is_of.ensures
+    sym (by_base p on es c.is_finished.result c.is_of.result c.is_finished.ensures c.if-is_finished.false c.is_of.ensures
     ∙ ap (by_tests p on es false) c.if-not-is_of.true)
 
 pub returns-in_err-place : goal.returns-in_err-place
@@ -19,7 +19,7 @@ returns-in_err-place g c =
     let on = progress_of c.args.self.now in
     let es = (g.S.Store.view c.args.self.now.store).list in
     c.from_residual.ensures
-    ∙ sym (by_base p on es c.is_finished.result c.is_of.result (c.is_finished.ensures ∙ c.marking.ensures.finished) c.if-is_finished.false c.is_of.ensures
+    ∙ sym (by_base p on es c.is_finished.result c.is_of.result c.is_finished.ensures c.if-is_finished.false c.is_of.ensures
     ∙ ap (by_tests p on es false) c.if-not-is_of.false ∙ ap by_failing (sym c.in_err-place.ensures))
 
 pub returns : goal.returns
@@ -27,5 +27,5 @@ returns g c =
     let p = planned c.args.plan.now in
     let on = progress_of c.args.self.now in
     let es = (g.S.Store.view c.args.self.now.store).list in
-    sym (by_base p on es c.is_finished.result c.is_of.result (c.is_finished.ensures ∙ c.marking.ensures.finished) c.if-is_finished.false c.is_of.ensures
+    sym (by_base p on es c.is_finished.result c.is_of.result c.is_finished.ensures c.if-is_finished.false c.is_of.ensures
     ∙ ap (by_tests p on es false) c.if-not-is_of.false ∙ ap by_failing (sym c.in_ok-place.ensures))
