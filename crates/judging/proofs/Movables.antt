@@ -29,7 +29,7 @@ use Rattle.judging.specs.declared.batch.Batch.{Batch}
 use Rattle.judging.specs.declared.batch.Batch.TheVariants.{Ready, Refused}
 use Rattle.judging.specs.Batches.{batch_of}
 use Rattle.judging.specs.Judgements.{answered, then_moved, judged}
-use Rattle.judging.specs.Laws.{Movable, MovesTheMovable, judged_history}
+use Rattle.judging.specs.Laws.{Movable, judged_history}
 
 -- bytes that are those of entries are read as them
 read_back : (rs : List RawEntry) (es : List Entry) → Spelled rs es → entries_read rs ≡ es
@@ -125,7 +125,8 @@ module _ (cost : ℕ) (p : PlanParts) (line : List ℕ) (v : CaseView) (r : Rele
   then_lives (Err e) = life
 
 -- whatever it costs to purge
-pub moves_the_movable : MovesTheMovable
+moves_the_movable : (p : PlanParts) (line : List ℕ) (v : CaseView) → Released p
+    → ((judged (Ok p) line v).verdict.refusal ≡ None) ↔ Movable p line v.store.capacity
 moves_the_movable p line v r = (forth 0 p line v r (load_outcome line (opened_on v.number p.base v.store)).answer refl, back 0 p line v r)
 
 -- the plan of a batch is a released one
