@@ -9,6 +9,9 @@ use Rattle.record.specs.Lines.{HeldLine, Overlong, held_of, pushed}
 pushed_held : (xs : List ℕ) (c : ℕ) → pushed (held_of xs) c ≡ held_of (xs ++ c ∷ [])
 pushed_held xs c = grind (arith, nat_tests, length-append xs (c ∷ []))
 
+pub pushed_grows : (h k : HeldLine) (c : ℕ) → k ≡ pushed h c → (cs : List ℕ) → h ≡ held_of cs → k ≡ held_of (cs ++ c ∷ [])
+pushed_grows h k c e cs is = e ∙ ap (λ x. pushed x c) is ∙ pushed_held cs c
+
 -- one by one, the characters come behind those that are held
 fold_held : (xs cs : List ℕ) → fold pushed (held_of xs) cs ≡ held_of (xs ++ cs)
 fold_held xs [] = ap held_of (sym (append-nil xs))
@@ -27,6 +30,9 @@ held_cut xs cs room full =
           let kept : length (take (min (length cs) room) cs) ≡ min (length cs) room = length-take-le (min (length cs) room) cs (omega arith) in
           overlong _ (omega (arith, kept, length-append xs (take (min (length cs) room) cs))) ∙ sym (overlong _ (omega (arith, length-append xs cs)))
     ]
+
+pub fold_grows : (h k : HeldLine) (ds : List ℕ) → k ≡ fold pushed h ds → (cs : List ℕ) → h ≡ held_of cs → k ≡ held_of (cs ++ ds)
+fold_grows h k ds e cs is = e ∙ ap (λ (g : HeldLine). fold pushed g ds) is ∙ fold_held cs ds
 
 pub extended : (xs cs : List ℕ) (room : ℕ) → length xs + room ≡ 1025 → held_of (xs ++ take (min (length cs) room) cs) ≡ fold pushed (held_of xs) cs
 extended xs cs room full = held_cut xs cs room full ∙ sym (fold_held xs cs)

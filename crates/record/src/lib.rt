@@ -11,7 +11,6 @@ mod schemas;
 #[cfg(test)]
 mod tests;
 
-use arrayvec::ArrayVec;
 pub use hex::digits;
 pub use items::item;
 pub use laws::{decoding_inverts_hex, reading_inverts_writing};
@@ -72,17 +71,22 @@ impl Model for Record {
     ghost invariant = { λ r. (r.len ≤ 512) × (length r.bytes ≡ 512) };
 }
 
-// A line as it comes in. Of a line that is too long, the first characters are held.
+// A line as it comes in. Of a line that is too long, the first characters are held. An array with its length, since a vector of
+// fixed capacity writes over each character when it is cleared.
 #[derive(Drop)]
 pub struct LineBuffer {
-    chars: ArrayVec<u8, HELD_LIMIT>,
+    chars: [u8; HELD_LIMIT],
+    len: usize,
 }
 
 // A clause sees what is held of the line.
 impl Model for LineBuffer {
+    ghost use Rattle.std.specs.Prelude.{◌≡◌, ◌≤◌, length, take};
     ghost use Rattle.record.specs.Lines.{HeldLine, held_of};
 
     ghost Value = { HeldLine };
 
-    ghost view = { λ b. held_of b.chars.items };
+    ghost view = { λ b. held_of (take b.len b.chars) };
+
+    ghost invariant = { λ b. (b.len ≤ 1025) × (length b.chars ≡ 1025) };
 }

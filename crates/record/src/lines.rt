@@ -1,18 +1,18 @@
 // A buffer for lines that come in character by character.
-ghost use Rattle.std.specs.Prelude.{◌≡◌, ℕ, List, [], ◌∷◌, ◌++◌};
+ghost use Rattle.std.specs.Prelude.{◌≡◌, ℕ, ◌≤◌, List, [], ◌∷◌, ◌++◌, length, IfSome};
 ghost use Rattle.std.specs.List.{fold};
 ghost use Rattle.std.specs.Option.{option_map};
 ghost use Rattle.record.specs.Lines.{Short, held_of, pushed, whole_line};
 
-use crate::LineBuffer;
-use arrayvec::ArrayVec;
+use crate::{HELD_LIMIT, LINE_LIMIT, LineBuffer};
 
 impl LineBuffer {
     pub fn new() -> LineBuffer
         ensures { result ≡ Short [] }
     {
         LineBuffer {
-            chars: ArrayVec::new(),
+            chars: [0; HELD_LIMIT],
+            len: 0,
         }
     }
 
@@ -20,7 +20,7 @@ impl LineBuffer {
     pub fn clear(&mut self)
         ensures { self.new ≡ Short [] }
     {
-        self.chars.clear();
+        self.len = 0;
     }
 
     // One more character of the line. A line that is once too long stays so.
@@ -28,8 +28,9 @@ impl LineBuffer {
         ensures value { self.new ≡ pushed self.old character }
         ensures grows { (cs : List ℕ) → self.old ≡ held_of cs → self.new ≡ held_of (cs ++ character ∷ []) }
     {
-        if !self.chars.is_full() {
-            self.chars.push(character);
+        if self.len < HELD_LIMIT {
+            self.chars[self.len] = character;
+            self.len += 1;
         }
     }
 
@@ -37,23 +38,25 @@ impl LineBuffer {
     // without them.
     #[tactic(auto, using(crate::proofs::Lengthening::extended))]
     pub fn extend(&mut self, characters: &[u8])
-        ensures { self.new ≡ fold pushed self.old characters.now }
+        ensures value { self.new ≡ fold pushed self.old characters.now }
+        ensures grows { (cs : List ℕ) → self.old ≡ held_of cs → self.new ≡ held_of (cs ++ characters.now) }
     {
-        let room = self.chars.remaining_capacity();
+        let room = HELD_LIMIT - self.len;
         let held = &characters[..characters.len().min(room)];
-        if self.chars.try_extend_from_slice(held).is_err() {
-            unreachable!();
-        }
+        let end = self.len + held.len();
+        self.chars[self.len..end].copy_from_slice(held);
+        self.len = end;
     }
 
     // The line, unless it is too long.
     pub fn line(&self) -> Option<&[u8]>
-        ensures { option_map (λ x. x.now) result ≡ whole_line self.now }
+        ensures value { option_map (λ x. x.now) result ≡ whole_line self.now }
+        ensures few { IfSome result (λ x. length x.now ≤ 1024) }
     {
-        if self.chars.is_full() {
+        if self.len > LINE_LIMIT {
             None
         } else {
-            Some(self.chars.as_slice())
+            Some(&self.chars[..self.len])
         }
     }
 }
