@@ -111,16 +111,18 @@ pub trait Store {
 pub fn is_of(entry: Entry, kind: EntryKind, id: u8) -> bool
     ensures { result ≡ is_of kind id entry }
 {
-    EntryKind::from(entry) == kind && entry.id() == id
+    entry.id() == id && EntryKind::from(entry) == kind
 }
 
 // Whether the last entry of one kind and node stands before the last of another.
 pub fn comes_before<S: Store>(store: &S, earlier: (EntryKind, u8), later: (EntryKind, u8)) -> bool
     ensures { result ≡ before (last_place earlier.0 earlier.1 (S.view store.now).list) (last_place later.0 later.1 (S.view store.now).list) }
 {
-    let first = store.place(earlier.0, earlier.1);
-    let second = store.place(later.0, later.1);
-    first
-        .zip(second)
-        .is_some_and(|(first, second)| first < second)
+    // the later one is looked for only where the earlier is there
+    let Some(first) = store.place(earlier.0, earlier.1) else {
+        return false;
+    };
+    store
+        .place(later.0, later.1)
+        .is_some_and(|second| first < second)
 }
