@@ -30,6 +30,13 @@ impl Model for Facts {
     ghost inverse = { λ fs. record { values = fs } };
 }
 
+// The fact of a node among facts by id; past their end there is none.
+pub fn fact_of(values: &[Fact], id: u8) -> Fact
+    ensures { result ≡ fact_of values.now id }
+{
+    get_or(values, usize::from(id), Fact::Nothing)
+}
+
 impl Facts {
     // Nothing has happened yet.
     pub fn none() -> Facts
@@ -44,7 +51,7 @@ impl Facts {
     pub fn of(&self, id: u8) -> Fact
         ensures { result ≡ fact_of self.now id }
     {
-        get_or(&self.values, usize::from(id), Fact::Nothing)
+        fact_of(&self.values, id)
     }
 
     // Notes what happened to a node; an id above 63 is none.

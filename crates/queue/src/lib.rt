@@ -1,7 +1,7 @@
 // A worklist that keeps the order of offering.
 #![tactic(auto)]
 
-ghost use Rattle.std.specs.Prelude.{◌≡◌, true, []};
+ghost use Rattle.std.specs.Prelude.{◌≡◌, ◌≤◌, true, [], length};
 ghost use Rattle.worklist.specs.Offers.{none_offered, with_id, without_id};
 ghost use Rattle.queue.specs.Orders.{each_once, offered_order, withdrawn_order};
 
@@ -36,7 +36,8 @@ impl Queue {
 
     // The ids in the order of their offering.
     pub fn as_slice(&self) -> &[u8]
-        ensures { result.now ≡ order self.now }
+        ensures value { result.now ≡ order self.now }
+        ensures few { length result.now ≤ 64 }
     {
         self.ids.as_slice()
     }

@@ -2,7 +2,7 @@
 #![tactic(auto)]
 
 ghost use Rattle.std.specs.Prelude.{◌≡◌, length};
-ghost use Rattle.history.specs.Stores.{fresh};
+ghost use Rattle.history.specs.Stores.{fresh, refusal, cleared, add_answer, added, purge_answer, purged, PurgeBounds};
 ghost use Rattle.table.specs.Tables.{table_view, Tight, table_within};
 
 pub mod laws;
@@ -32,7 +32,7 @@ impl<'a> CompactedTable<'a> {
     }
 }
 
-// A purge is free of cost. That each place is free or holds an entry is a law of all tables.
+// A purge is free of cost. Beyond what every store promises, each place is free or holds an entry: so in every table.
 impl Store for CompactedTable<'_> {
     type Cost = NoPlace;
 
@@ -40,15 +40,29 @@ impl Store for CompactedTable<'_> {
 
     ghost within = { table_within };
 
-    fn clear(&mut self) {
+    fn clear(&mut self)
+        ensures after { table_view self.new ≡ cleared (table_view self.old) }
+        ensures tight { Tight (table_view self.new) }
+    {
         self.entries.clear();
     }
 
-    fn add(&mut self, entry: Entry) -> Result<(), Full> {
+    fn add(&mut self, entry: Entry) -> Result<(), Full>
+        ensures answer { result ≡ add_answer (table_view self.old) }
+        ensures after { table_view self.new ≡ added entry (table_view self.old) }
+        ensures unchanged { result ≡ refusal → self.new ≡ self.old }
+        ensures tight { Tight (table_view self.new) }
+    {
         self.entries.push(entry)
     }
 
-    fn purge(&mut self, ids: IdSet) -> Result<(), Full> {
+    fn purge(&mut self, ids: IdSet) -> Result<(), Full>
+        ensures answer { result ≡ purge_answer 0 (table_view self.old) }
+        ensures after { table_view self.new ≡ purged 0 ids (table_view self.new).free (table_view self.old) }
+        ensures bounds { PurgeBounds 0 ids (table_view self.new).free (table_view self.old) }
+        ensures unchanged { result ≡ refusal → self.new ≡ self.old }
+        ensures tight { Tight (table_view self.new) }
+    {
         self.entries.purge(ids);
         Ok(())
     }
