@@ -1,4 +1,4 @@
 pub mod Activities
 pub mod Repeating
 pub mod Moves
-pub mod Entries
+pub mod HeldAfter

@@ -15,6 +15,7 @@ ghost use Rattle.lives.specs.Lives.{Leaves};
 ghost use Rattle.entering.specs.Changes.{Changed, Reached};
 ghost use Rattle.entering.specs.Courses.{schema_of, held_in, progress_of, Becomes};
 
+use crate::entries::{enter, take, take_all};
 use case_record::{CaseRecord, RawEntry};
 use conditions::failures::first_failing;
 use drafts::plan::Plan;
@@ -22,7 +23,6 @@ use facts::Facts;
 use history::Store;
 use lives::CallRefusal;
 use marking::marking::{Marking, is_finished, node_state};
-use model::refusal::StepRefusal;
 use model::{Entry, State};
 use rounds::nodes::round_of;
 use runs::steps::fact_of_step;
@@ -81,20 +81,12 @@ impl<'s, S: Store> Course<'s, S> {
         is_finished(self.schema, &self.facts)
     }
 
-    // Takes a step that the schema allows and for which the store has a place; the place told is that in a record.
+    // As `entries::enter`, of its own facts and store.
     pub fn enter(&mut self, place: Option<usize>, entry: Entry) -> Result<(), CallRefusal>
         ensures after { Becomes S.view (λ h k. Changed (entered (schema_of self.old) place entry h) h k result) self.old self.new }
         ensures same { (r : CallRefusal) → result ≡ Err r → self.new ≡ self.old }
     {
-        let id = entry.id();
-        let fact = fact_of_step(self.schema, &self.facts, entry).map_err(|refusal| refusal.at(
-            place, id,
-        ))?;
-        self.store
-            .add(entry)
-            .map_err(|_| CallRefusal::Store { place, id })?;
-        self.facts.note(id, fact);
-        Ok(())
+        enter(self.schema, &mut self.facts, &mut self.store, place, entry)
     }
 
     // Goes round once more in the loop of an Activated test: what happened between its start and its end is forgotten.
@@ -116,26 +108,19 @@ impl<'s, S: Store> Course<'s, S> {
         Ok(())
     }
 
-    // Takes the step that the bytes at a place of a record say; bytes that say none are refused.
+    // As `entries::take`.
     pub fn take(&mut self, place: usize, raw: RawEntry) -> Result<(), CallRefusal>
         ensures { Becomes S.view (λ h k. Changed (taken (schema_of self.old) place raw h (entry_read raw.kind raw.id raw.branch)) h k result) self.old self.new }
     {
-        let entry = Entry::try_from(raw).map_err(|unspelled| StepRefusal::from(unspelled).at(
-            Some(place),
-            raw.id,
-        ))?;
-        self.enter(Some(place), entry)
+        take(self.schema, &mut self.facts, &mut self.store, place, raw)
     }
 
-    // Takes the steps of a record, each judged in full before the next, up to the first that is refused; those before it stay.
+    // As `entries::take_all`.
     pub fn take_all(&mut self, history: CaseRecord<'_>) -> Result<(), CallRefusal>
         ensures after { Becomes S.view (λ h k. Reached (schema_of self.old) (entries_in history.entry.entries.now) h k result) self.old self.new }
         ensures capacity { (S.view self.new.store).capacity ≡ (S.view self.old.store).capacity }
     {
-        for (place, raw) in history.iter().enumerate() {
-            self.take(place, raw)?;
-        }
-        Ok(())
+        take_all(self.schema, &mut self.facts, &mut self.store, history)
     }
 
     // Begins anew on another schema.
