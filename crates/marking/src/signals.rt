@@ -95,7 +95,8 @@ impl Choice {
 }
 
 // What an element does behind `signal`, within the innermost open block. A bar or a join does nothing where no block of
-// its kind is open.
+// its kind is open. Inlined, since a marking asks it for each element: called, it costs more than all that it does.
+#[inline(always)]
 pub(crate) fn moves(
     facts: &Facts,
     element: Element,
