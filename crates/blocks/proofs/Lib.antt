@@ -1,2 +1,3 @@
 pub mod RowsOfTrees
 pub mod FirstFaults
+pub mod CheckSteps

@@ -1,2 +1,3 @@
 pub mod Living
 pub mod Anew
+pub mod Loading

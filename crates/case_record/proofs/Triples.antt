@@ -1,6 +1,6 @@
 -- Bytes three by three: how many entries there are, what stands in each, and back again.
-use Rattle.std.proofs.Common.{◌≡◌, ℕ, suc, ◌*◌, ◌/◌, List, [], ◌∷◌, map, length, refl, ap, arith}
-use Rattle.std.specs.List.{AllByRecursion}
+use Rattle.std.proofs.Common.{◌≡◌, ℕ, zero, suc, ◌+◌, ◌*◌, ◌/◌, ◌<◌, List, [], ◌∷◌, map, length, get_or, Some, refl, ap, arith}
+use Rattle.std.specs.List.{AllByRecursion, slice_get}
 use Rattle.record.specs.Hex.{Byte}
 use Rattle.record.proofs.Pieces.{pieces, items_count}
 use Rattle.case_record.specs.declared.RawEntry.{RawEntry}
@@ -14,6 +14,24 @@ entries_pieces (k ∷ i ∷ []) = refl
 entries_pieces (k ∷ i ∷ b ∷ bs) =
     let more : length (k ∷ i ∷ b ∷ bs) / 3 ≡ suc (length bs / 3) = omega arith in
     rw more (ap (λ es. entry_of k i b ∷ es) (entries_pieces bs))
+
+pub length_entries : (bs : List ℕ) → length (entries_in bs) ≡ length bs / 3
+length_entries [] = refl
+length_entries (k ∷ []) = refl
+length_entries (k ∷ i ∷ []) = refl
+length_entries (k ∷ i ∷ b ∷ bs) = omega (arith, length_entries bs)
+
+pub nth_entries : (bs : List ℕ) (n : ℕ) → n < length bs / 3 →
+    slice_get (entries_in bs) n ≡ Some (entry_of (get_or bs (3 * n) 0) (get_or bs (3 * n + 1) 0) (get_or bs (3 * n + 2) 0))
+nth_entries [] n h = absurd (omega arith)
+nth_entries (k ∷ []) n h = absurd (omega arith)
+nth_entries (k ∷ i ∷ []) n h = absurd (omega arith)
+nth_entries (k ∷ i ∷ b ∷ bs) zero h = refl
+nth_entries (k ∷ i ∷ b ∷ bs) (suc n) h =
+    let first : 3 * suc n ≡ suc (suc (suc (3 * n))) = omega arith in
+    let second : 3 * suc n + 1 ≡ suc (suc (suc (3 * n + 1))) = omega arith in
+    let third : 3 * suc n + 2 ≡ suc (suc (suc (3 * n + 2))) = omega arith in
+    rw (third, second, first) (nth_entries bs n (omega arith))
 
 pub count_entries : (bs : List ℕ) (n : ℕ) → length bs ≡ 3 * n → length (entries_in bs) ≡ n
 count_entries bs n h = items_count 3 (omega arith) entry_from bs _ (entries_pieces bs) n h

@@ -1,5 +1,7 @@
 pub mod TreeOrder
 pub mod PathsByEdges
+pub mod CheckSteps
+pub mod PassSteps
 pub mod TreeGaps
 pub mod GapMeanings
 pub mod NodeRelations

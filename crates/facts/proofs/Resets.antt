@@ -1,7 +1,8 @@
 -- Which facts a reset keeps. Assumes nothing.
-use Rattle.std.proofs.Common.{◌≡◌, ℕ, zero, suc, ◌+◌, ◌<◌, Bool, true, false, cond, List, [], ◌∷◌, length, get_or, set, replicate, sym, refl, ap, ◌∙◌, arith}
+use Rattle.std.proofs.Common.{◌≡◌, ℕ, zero, suc, ◌+◌, ◌<◌, ◌≤◌, Bool, true, false, cond, ◌&&◌, ltb, List, [], ◌∷◌, length, get_or, set, replicate, sym, refl, ap, ◌∙◌, arith}
+use Rattle.std.proofs.lemmas.Bool.Decides.{nat_tests}
 use Rattle.std.proofs.lemmas.Grind.{common_steps}
-use Rattle.std.proofs.lemmas.List.{ext_get_or, length-set, get_or-set_same, get_or-set_other}
+use Rattle.std.proofs.lemmas.List.{ext_get_or, get_or_past, length-set, get_or-set_same, get_or-set_other}
 use Rattle.model.specs.declared.Fact.{Fact}
 use Rattle.model.specs.declared.Fact.TheVariants.{Nothing}
 use Rattle.model.specs.Signals.{fact_of}
@@ -40,3 +41,26 @@ module _ (P : ℕ → Bool) where
   set_reset fs i f low e =
       sym (reset_is (set fs i f) (set (reset P fs) i f) (length-set (reset P fs) i f ∙ reset_long fs ∙ sym (length-set fs i f))
       (λ id. grind (arith, reset_of fs id, reset_long fs, get_or-set_same (reset P fs) i f Nothing, get_or-set_same fs i f Nothing, get_or-set_other fs i id f Nothing, get_or-set_other (reset P fs) i id f Nothing)))
+
+-- the ids in P that are below n
+abbrev pub below : (ℕ → Bool) → ℕ → ℕ → Bool
+below P n k = ltb k n && P k
+
+module _ (P : ℕ → Bool) (fs : List Fact) where
+  pub below_none : fs ≡ reset (below P 0) fs
+  below_none = reset_is (below P 0) fs fs refl (λ id. grind (arith, nat_tests))
+
+  pub below_all : (gs : List Fact) (n : ℕ) → length fs ≤ n → gs ≡ reset (below P n) fs → gs ≡ reset P fs
+  below_all gs n few e =
+      e ∙ reset_is P fs (reset (below P n) fs) (reset_long (below P n) fs) (λ id. grind (arith, nat_tests, reset_of (below P n) fs id, get_or_past fs id Nothing))
+
+  pub below_more : (gs : List Fact) (n : ℕ) → n < length fs → gs ≡ reset (below P n) fs → P n ≡ true → set gs n Nothing ≡ reset (below P (n + 1)) fs
+  below_more gs n low e t =
+      let rs = reset (below P n) fs in
+      ap (λ hs. set hs n Nothing) e
+      ∙ reset_is (below P (n + 1)) fs (set rs n Nothing) (length-set rs n Nothing ∙ reset_long (below P n) fs)
+      (λ id. grind (arith, nat_tests, reset_long (below P n) fs, reset_of (below P n) fs id, get_or-set_same rs n Nothing Nothing, get_or-set_other rs n id Nothing Nothing))
+
+  pub below_skip : (gs : List Fact) (n : ℕ) → gs ≡ reset (below P n) fs → P n ≡ false → gs ≡ reset (below P (n + 1)) fs
+  below_skip gs n e f =
+      e ∙ reset_is (below P (n + 1)) fs (reset (below P n) fs) (reset_long (below P n) fs) (λ id. grind (arith, nat_tests, reset_of (below P n) fs id))

@@ -1,11 +1,12 @@
 -- What a store holds after a call, put together from its list and its places. Assumes nothing.
-use Rattle.std.proofs.Common.{◌≡◌, ℕ, ◌-◌, ◌≤◌, Bool, true, false, cond, not, eqb, List, [], ◌∷◌, ◌++◌, length, sym, refl, ◌∙◌, arith}
+use Rattle.std.proofs.Common.{◌≡◌, ℕ, ◌-◌, ◌≤◌, Bool, true, false, cond, not, eqb, List, [], ◌∷◌, ◌++◌, length, Ok, Result, sym, refl, ◌∙◌, arith}
 use Rattle.std.proofs.lemmas.Bool.{eqb-true, le-ltb, cond-false}
 use Rattle.std.proofs.lemmas.List.Filters.{length-filter_both}
 use Rattle.ids.specs.declared.IdSet.{IdSet}
 use Rattle.model.specs.declared.Entry.{Entry}
+use Rattle.bounded.specs.declared.Full.{Full}
 use Rattle.history.specs.Entries.{stays, kept}
-use Rattle.history.specs.Stores.{StoreView, added, purged}
+use Rattle.history.specs.Stores.{StoreView, refusal, added, purge_answer, purged}
 
 pub kept_short : (ids : IdSet) (es : List Entry) → length (kept ids es) ≤ length es
 kept_short ids es =
@@ -31,5 +32,11 @@ added_is e v es f n p q r = go (eqb v.free 0) refl p
 
 -- a purge whose cost is there
 module _ (cost : ℕ) (ids : IdSet) (v : StoreView) (enough : cost ≤ v.free) where
+  pub purge_accepted : Ok tt ≡ purge_answer cost v
+  purge_accepted = sym (cond-false _ _ _ (le-ltb v.free cost enough))
+
   pub purged_is : (es : List Entry) (f n : ℕ) → es ≡ kept ids v.list → n ≡ v.capacity → view_of es f n ≡ purged cost ids f v
   purged_is es f n p r = view_is p refl r ∙ sym (cond-false _ _ _ (le-ltb v.free cost enough))
+
+pub not_refused : {A : Type 0} → ◌≡◌ {A = Result (Unit {0}) Full} (Ok tt) refusal → A
+not_refused e = absurd (let z : ◌≡◌ {A = ℕ} 0 1 = cc in omega arith)

@@ -175,7 +175,7 @@ module _ {xs : List Element} where
       sym (ap (λ zs. get_or zs p Bar) e ∙ ap (λ k. get_or ((b ++ f) ++ w.after) k Bar) (sym at) ∙ get_or-append-add (b ++ f) w.after 0 Bar)
 
   -- a gap in a block stands no later than what closes the block
-  within_until : {s p n e m : ℕ} → Within xs s p n → Within xs s e m → Closes (get_or xs e Bar) → p ≤ e
+  pub within_until : {s p n e m : ℕ} → Within xs s p n → Within xs s e m → Closes (get_or xs e Bar) → p ≤ e
   within_until {s} {p} {n} {e} w v closes =
       let same : spell_branches w.branches w.after ≡ spell_branches v.branches v.after = sym (inner w) ∙ inner v in
       let a = until_past_branches w.branches 0 w.after in

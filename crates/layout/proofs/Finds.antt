@@ -1,6 +1,6 @@
 -- The places of a row's nodes. Assumes nothing.
-use Rattle.std.proofs.Common.{◌≡◌, ℕ, suc, ◌+◌, ◌<◌, ◌≤◌, ◌⊎◌, List, [], ◌∷◌, length, get_or, set, Some, None, Option, sym, refl, ap, ◌∙◌, subst, inl, inr, arith, length-set, below_more}
-use Rattle.std.proofs.lemmas.List.{get_or-set_same, get_or-set_other, get_or_past, length-replicate}
+use Rattle.std.proofs.Common.{◌≡◌, ℕ, suc, ◌+◌, ◌<◌, ◌≤◌, ◌⊎◌, List, [], ◌∷◌, length, get_or, set, replicate, Some, None, Option, sym, refl, ap, ◌∙◌, subst, inl, inr, arith, length-set, below_more}
+use Rattle.std.proofs.lemmas.List.{get_or-set_same, get_or-set_other, get_or-replicate, get_or_past, length-replicate}
 use Rattle.std.proofs.lemmas.Bool.{cases_eq, cases_lt}
 use Rattle.bounded.proofs.Replicas.{get_or-replicate_default}
 use Rattle.model.specs.declared.Element.{Element}
@@ -73,6 +73,13 @@ module _ (xs : List Element) where
       read_places ys (n + 1) (step x n s) (noted x n (move x n s) s.here t) (rest_next r)
       (written_long (node_id x) n t.places ∙ long)
       (note_id (node_id x) x n t.places long refl (rest_here AndSplit r) h) u
+
+pub none_yet : (n k : ℕ) → get_or (replicate {A = Option ℕ} n None) k None ≡ None
+none_yet n k = go (cases_lt k n)
+  where
+    go : (k < n) ⊎ (n ≤ k) → get_or (replicate {A = Option ℕ} n None) k None ≡ None
+    go (inl h) = get_or-replicate n k None None h
+    go (inr h) = get_or_past _ k None (simp length-replicate h)
 
 among_at : (xs : List Element) (u : ℕ) → Among xs u → (q : ℕ) × (q < length xs) × Bears (get_or xs q AndSplit) u
 among_at [] u h = elim h [ ]

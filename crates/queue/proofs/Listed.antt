@@ -1,11 +1,11 @@
 -- Which ids are in a list, and in one with an id offered or withdrawn. Assumes nothing.
-use Rattle.std.proofs.Common.{◌≡◌, ℕ, ◌+◌, ◌<◌, Bool, false, not, ◌&&◌, ◌||◌, eqb, List, [], ◌∷◌, ◌++◌, length, get_or, take, filter, refl, ap, ◌∙◌, arith}
+use Rattle.std.proofs.Common.{◌≡◌, ℕ, ◌+◌, ◌<◌, Bool, true, false, not, ◌&&◌, ◌||◌, eqb, List, [], ◌∷◌, ◌++◌, length, get_or, take, filter, refl, ap, ◌∙◌, arith}
 use Rattle.std.proofs.lemmas.List.{take_more}
 use mathlib.Core.Path.{fun_ext}
 use Rattle.std.specs.List.{IsAnyAnswer}
 use Rattle.std.proofs.lemmas.List.Elements.{contains_decides}
 use Rattle.std.proofs.lemmas.Bool.Decides.{same_from_decides, Decides-by_or, Decides-eqb}
-use Rattle.worklist.specs.Offers.{without_id}
+use Rattle.worklist.specs.Offers.{with_id, without_id}
 use Rattle.queue.specs.Orders.{listed, offered_order, withdrawn_order}
 
 pub listed_contains : (xs : List ℕ) (id : ℕ) (r : Bool) → IsAnyAnswer (λ y t. eqb y id ≡ t) xs r → r ≡ listed xs id
@@ -25,8 +25,14 @@ pub listed_kept : (p : ℕ → Bool) (xs : List ℕ) (i : ℕ) → listed (filte
 listed_kept p [] i = refl
 listed_kept p (x ∷ xs) i = grind (arith, listed_kept p xs i)
 
+pub listed_offered : (id : ℕ) (xs : List ℕ) → listed (offered_order id xs) ≡ with_id id (listed xs)
+listed_offered id xs = fun_ext (λ i. grind (arith, listed_append xs (id ∷ []) i))
+
 pub offered_new : (id : ℕ) (xs : List ℕ) → id < 64 → listed xs id ≡ false → offered_order id xs ≡ xs ++ id ∷ []
 offered_new id xs small new = grind arith
+
+pub offered_in : (id : ℕ) (xs : List ℕ) → listed xs id ≡ true → offered_order id xs ≡ xs
+offered_in id xs in' = grind arith
 
 pub listed_withdrawn : (id : ℕ) (xs : List ℕ) → listed (withdrawn_order id xs) ≡ without_id id (listed xs)
 listed_withdrawn id xs = fun_ext (listed_kept (λ x. not (eqb x id)) xs)

@@ -7,6 +7,10 @@ use Rattle.ids.proofs.Counting.{count_more}
 use Rattle.queue.specs.Orders.{listed, each_once}
 use Rattle.queue.proofs.Listed.{listed_append, listed_kept}
 
+-- the head is below 64 and not in the tail, where each is once too
+pub once_parts : (x : ℕ) (xs : List ℕ) → each_once (x ∷ xs) ≡ true → (x < 64) × (listed xs x ≡ false) × (each_once xs ≡ true)
+once_parts x xs h = (grind arith, grind arith, grind arith)
+
 pub once_push : (xs : List ℕ) (id : ℕ) → each_once xs ≡ true → id < 64 → listed xs id ≡ false → each_once (xs ++ id ∷ []) ≡ true
 once_push [] id once small new = grind arith
 once_push (x ∷ xs) id once small new = grind (arith, listed_append xs (id ∷ []) x, once_push xs id)
@@ -35,10 +39,13 @@ unfolding ids_below
 length_below zero = refl
 length_below (suc n) = length_push (ids_below n) n ∙ omega (arith, length_below n)
 
-how_many_fits : (p : ℕ → Bool) → how_many p ≤ 64
+pub how_many_fits : (p : ℕ → Bool) → how_many p ≤ 64
 how_many_fits p = omega (arith, length-filter p (ids_below 64), count_by-le-length p (ids_below 64), length_below 64)
 
 -- the pigeonholes: a list of distinct ids below 64 has at most 64, so there is room for a new one
+pub once_fits : (xs : List ℕ) → each_once xs ≡ true → length xs ≤ 64
+once_fits xs once = omega (arith, count_once xs once, how_many_fits (listed xs))
+
 pub once_room : (xs : List ℕ) (id : ℕ) → each_once xs ≡ true → id < 64 → listed xs id ≡ false → length xs < 64
 once_room xs id once small new =
     let more = xs ++ id ∷ [] in

@@ -1,5 +1,5 @@
 -- A schema record taken apart from its front, as slice patterns do.
-use Rattle.std.proofs.Common.{◌≡◌, ℕ, ◌+◌, ◌-◌, ◌*◌, ◌≤◌, ◌&&◌, eqb, leb, List, [], ◌∷◌, length, get_or, take, drop, None, Option, sym, ap, ◌∙◌, arith}
+use Rattle.std.proofs.Common.{◌≡◌, ℕ, ◌+◌, ◌-◌, ◌*◌, ◌<◌, ◌≤◌, ◌&&◌, eqb, leb, List, [], ◌∷◌, length, get_or, take, drop, Some, None, Option, sym, ap, ◌∙◌, arith}
 use Rattle.std.proofs.lemmas.List.{take_rest}
 use Rattle.std.proofs.lemmas.Bool.{cond-true, cond-false, and_from, and_right, eq-eqb, le-leb}
 use Rattle.std.proofs.lemmas.Bool.Decides.{nat_tests}
@@ -8,6 +8,12 @@ use Rattle.record.specs.SchemaRecords.{edges_in, read_schema, with_edges}
 -- all but the first n, as a pattern's rest has it
 abbrev pub rest_of : ℕ → List ℕ → List ℕ
 rest_of n bs = take (length bs - n) (drop n bs)
+
+pub edges_at : (bs : List ℕ) → 0 < length bs → length (rest_of 1 bs) ≡ 2 * get_or bs 0 0 → Some (rest_of 1 bs) ≡ edges_in bs
+edges_at [] some h = absurd (omega arith)
+edges_at (n ∷ es) some h =
+    let e : rest_of 1 (n ∷ es) ≡ es = take_rest (n ∷ es) 1 in
+    ap Some e ∙ sym (cond-true (eqb (length es) (2 * n)) _ _ (eq-eqb _ _ (sym (ap length e) ∙ h)))
 
 read_at : (bs : List ℕ) → 4 ≤ length bs → get_or bs 0 0 ≡ 1 → 2 * get_or bs 3 0 ≤ length (rest_of 4 bs) →
     read_schema bs ≡ with_edges (get_or bs 1 0 * 256 + get_or bs 2 0) (take (2 * get_or bs 3 0) (rest_of 4 bs)) (edges_in (drop (2 * get_or bs 3 0) (rest_of 4 bs)))

@@ -97,7 +97,7 @@ module _ (xs : List Element) (few : length xs ≤ 128) (one : Unique xs) (low : 
       ∙ ap (take (place - (start + 1))) (drop_at front (flatten u ++ rest) (start + 1) front_long)
       ∙ take_at (flatten u) rest (place - (start + 1)) (omega (arith, place_is))
 
-  body : between xs i ≡ flatten u
+  pub body : between xs i ≡ flatten u
   body =
       ap (up_to xs) (placed xs few one low t is (front ++ flatten u) (LoopEnd i) loop_in.after i whole refl)
       ∙ ap (λ b. within xs place (cond b (Some (get_or (tables_of xs).positions place outside)) None)) (lt-ltb place (length xs) below)
